@@ -198,11 +198,8 @@ fn make_program<'a>(alloc: Global) -> Command<'a>
 pub fn make_commands<'a>(alloc: Global) -> Result<Command<'a>, AllocError>
     ensures { IfOk result (λ command. app_of command ≡ commands) }
 {
-    let check = make_check(alloc)?;
-    let replay = make_replay(alloc)?;
-    let run = make_run(alloc)?;
     make_program(alloc)
-        .subcommand(check)?
-        .subcommand(replay)?
-        .subcommand(run)
+        .subcommand(make_check(alloc)?)?
+        .subcommand(make_replay(alloc)?)?
+        .subcommand(make_run(alloc)?)
 }

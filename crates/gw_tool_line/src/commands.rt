@@ -309,66 +309,49 @@ fn make_program<'a>(alloc: Global) -> Command<'a>
 fn make_first_commands<'a>(alloc: Global) -> Result<Command<'a>, AllocError>
     ensures { IfOk result (λ command. app_of command ≡ first_commands) }
 {
-    let check = make_check(alloc)?;
-    let explain = make_explain(alloc)?;
-    let lint = make_lint(alloc)?;
-    let migrate = make_migrate(alloc)?;
     make_program(alloc)
-        .subcommand(check)?
-        .subcommand(explain)?
-        .subcommand(lint)?
-        .subcommand(migrate)
+        .subcommand(make_check(alloc)?)?
+        .subcommand(make_explain(alloc)?)?
+        .subcommand(make_lint(alloc)?)?
+        .subcommand(make_migrate(alloc)?)
 }
 
 /// The program with its first eight commands.
 fn make_middle_commands<'a>(alloc: Global) -> Result<Command<'a>, AllocError>
     ensures { IfOk result (λ command. app_of command ≡ middle_commands) }
 {
-    let why = make_why(alloc)?;
-    let report = make_report(alloc)?;
-    let log = make_log(alloc)?;
-    let compare = make_compare(alloc)?;
     make_first_commands(alloc)?
-        .subcommand(why)?
-        .subcommand(report)?
-        .subcommand(log)?
-        .subcommand(compare)
+        .subcommand(make_why(alloc)?)?
+        .subcommand(make_report(alloc)?)?
+        .subcommand(make_log(alloc)?)?
+        .subcommand(make_compare(alloc)?)
 }
 
 /// The program with its first twelve commands.
 fn make_later_commands<'a>(alloc: Global) -> Result<Command<'a>, AllocError>
     ensures { IfOk result (λ command. app_of command ≡ later_commands) }
 {
-    let state = make_state(alloc)?;
-    let suggest = make_suggest(alloc)?;
-    let reload = make_reload(alloc)?;
-    let objects = make_objects(alloc)?;
     make_middle_commands(alloc)?
-        .subcommand(state)?
-        .subcommand(suggest)?
-        .subcommand(reload)?
-        .subcommand(objects)
+        .subcommand(make_state(alloc)?)?
+        .subcommand(make_suggest(alloc)?)?
+        .subcommand(make_reload(alloc)?)?
+        .subcommand(make_objects(alloc)?)
 }
 
 /// The program with its first sixteen commands.
 fn make_most_commands<'a>(alloc: Global) -> Result<Command<'a>, AllocError>
     ensures { IfOk result (λ command. app_of command ≡ most_commands) }
 {
-    let ask = make_ask(alloc)?;
-    let rules = make_rules(alloc)?;
-    let stop = make_stop(alloc)?;
-    let status = make_status(alloc)?;
     make_later_commands(alloc)?
-        .subcommand(ask)?
-        .subcommand(rules)?
-        .subcommand(stop)?
-        .subcommand(status)
+        .subcommand(make_ask(alloc)?)?
+        .subcommand(make_rules(alloc)?)?
+        .subcommand(make_stop(alloc)?)?
+        .subcommand(make_status(alloc)?)
 }
 
 /// The commands of the program. An `Err` only if a growth of memory was refused.
 pub fn make_commands<'a>(alloc: Global) -> Result<Command<'a>, AllocError>
     ensures { IfOk result (λ command. app_of command ≡ commands) }
 {
-    let init = make_init(alloc)?;
-    make_most_commands(alloc)?.subcommand(init)
+    make_most_commands(alloc)?.subcommand(make_init(alloc)?)
 }

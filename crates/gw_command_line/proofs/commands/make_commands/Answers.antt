@@ -8,7 +8,7 @@ pub returns : goal.returns
 unfolding commands
 returns c =
     let zero = c.make_program.ensures in
-    let one = c.in_ok-subcommand.ensures.shape c.in_ok-check.ensures.local ∙ ap₂ with_subcommand zero (ap (λ (a : App). a.top) c.in_ok-check.ensures.app) in
-    let two = c.in_ok-subcommand-2.ensures.shape c.in_ok-replay.ensures.local ∙ ap₂ with_subcommand one (ap (λ (a : App). a.top) c.in_ok-replay.ensures.app) in
+    let one = c.in_ok-subcommand.ensures.shape c.in_ok-make_check.ensures.local ∙ ap₂ with_subcommand zero (ap (λ (a : App). a.top) c.in_ok-make_check.ensures.app) in
+    let two = c.in_ok-subcommand-2.ensures.shape c.in_ok-make_replay.ensures.local ∙ ap₂ with_subcommand one (ap (λ (a : App). a.top) c.in_ok-make_replay.ensures.app) in
     IfOk-weaker c.subcommand-3.result _ _
-    (λ m h. h.shape c.in_ok-run.ensures.local ∙ ap₂ with_subcommand two (ap (λ (a : App). a.top) c.in_ok-run.ensures.app)) c.subcommand-3.ensures
+    (λ m h. h.shape c.in_ok-make_run.ensures.local ∙ ap₂ with_subcommand two (ap (λ (a : App). a.top) c.in_ok-make_run.ensures.app)) c.subcommand-3.ensures

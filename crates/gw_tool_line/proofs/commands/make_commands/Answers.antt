@@ -8,5 +8,5 @@ pub returns : goal.returns
 unfolding commands
 returns c =
     IfOk-weaker c.subcommand.result _ _
-    (λ m h. h.shape c.in_ok-init.ensures.local ∙ ap₂ with_subcommand c.in_ok-make_most_commands.ensures (ap (λ (a : App). a.top) c.in_ok-init.ensures.app))
+    (λ m h. h.shape c.in_ok-make_init.ensures.local ∙ ap₂ with_subcommand c.in_ok-make_most_commands.ensures (ap (λ (a : App). a.top) c.in_ok-make_init.ensures.app))
     c.subcommand.ensures

@@ -8,8 +8,8 @@ pub returns : goal.returns
 unfolding first_commands
 returns c =
     let zero = c.make_program.ensures in
-    let one = c.in_ok-subcommand.ensures.shape c.in_ok-check.ensures.local ∙ ap₂ with_subcommand zero (ap (λ (a : App). a.top) c.in_ok-check.ensures.app) in
-    let two = c.in_ok-subcommand-2.ensures.shape c.in_ok-explain.ensures.local ∙ ap₂ with_subcommand one (ap (λ (a : App). a.top) c.in_ok-explain.ensures.app) in
-    let three = c.in_ok-subcommand-3.ensures.shape c.in_ok-lint.ensures.local ∙ ap₂ with_subcommand two (ap (λ (a : App). a.top) c.in_ok-lint.ensures.app) in
+    let one = c.in_ok-subcommand.ensures.shape c.in_ok-make_check.ensures.local ∙ ap₂ with_subcommand zero (ap (λ (a : App). a.top) c.in_ok-make_check.ensures.app) in
+    let two = c.in_ok-subcommand-2.ensures.shape c.in_ok-make_explain.ensures.local ∙ ap₂ with_subcommand one (ap (λ (a : App). a.top) c.in_ok-make_explain.ensures.app) in
+    let three = c.in_ok-subcommand-3.ensures.shape c.in_ok-make_lint.ensures.local ∙ ap₂ with_subcommand two (ap (λ (a : App). a.top) c.in_ok-make_lint.ensures.app) in
     IfOk-weaker c.subcommand-4.result _ _
-    (λ m h. h.shape c.in_ok-migrate.ensures.local ∙ ap₂ with_subcommand three (ap (λ (a : App). a.top) c.in_ok-migrate.ensures.app)) c.subcommand-4.ensures
+    (λ m h. h.shape c.in_ok-make_migrate.ensures.local ∙ ap₂ with_subcommand three (ap (λ (a : App). a.top) c.in_ok-make_migrate.ensures.app)) c.subcommand-4.ensures

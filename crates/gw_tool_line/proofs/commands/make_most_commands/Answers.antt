@@ -8,8 +8,8 @@ pub returns : goal.returns
 unfolding most_commands
 returns c =
     let zero = c.in_ok-make_later_commands.ensures in
-    let one = c.in_ok-subcommand.ensures.shape c.in_ok-ask.ensures.local ∙ ap₂ with_subcommand zero (ap (λ (a : App). a.top) c.in_ok-ask.ensures.app) in
-    let two = c.in_ok-subcommand-2.ensures.shape c.in_ok-rules.ensures.local ∙ ap₂ with_subcommand one (ap (λ (a : App). a.top) c.in_ok-rules.ensures.app) in
-    let three = c.in_ok-subcommand-3.ensures.shape c.in_ok-stop.ensures.local ∙ ap₂ with_subcommand two (ap (λ (a : App). a.top) c.in_ok-stop.ensures.app) in
+    let one = c.in_ok-subcommand.ensures.shape c.in_ok-make_ask.ensures.local ∙ ap₂ with_subcommand zero (ap (λ (a : App). a.top) c.in_ok-make_ask.ensures.app) in
+    let two = c.in_ok-subcommand-2.ensures.shape c.in_ok-make_rules.ensures.local ∙ ap₂ with_subcommand one (ap (λ (a : App). a.top) c.in_ok-make_rules.ensures.app) in
+    let three = c.in_ok-subcommand-3.ensures.shape c.in_ok-make_stop.ensures.local ∙ ap₂ with_subcommand two (ap (λ (a : App). a.top) c.in_ok-make_stop.ensures.app) in
     IfOk-weaker c.subcommand-4.result _ _
-    (λ m h. h.shape c.in_ok-status.ensures.local ∙ ap₂ with_subcommand three (ap (λ (a : App). a.top) c.in_ok-status.ensures.app)) c.subcommand-4.ensures
+    (λ m h. h.shape c.in_ok-make_status.ensures.local ∙ ap₂ with_subcommand three (ap (λ (a : App). a.top) c.in_ok-make_status.ensures.app)) c.subcommand-4.ensures
