@@ -14,3 +14,4 @@ pub mod Limits
 pub mod TwoFormats
 pub mod keys_lemmas
 pub mod faults_lemmas
+mod Stopping
