@@ -1,5 +1,5 @@
 -- What the two rules match that go with a rule.
-use Rattle.std.proofs.Common.{◌≡◌, ℕ, ◌≤◌, Bool, true, false, List, [], ◌∷◌, ◌++◌, length, ◌↔◌, Option, Some, None, ◌==◌, ◌&&◌, ◌||◌, arith, inl, inr, refl, sym, ◌∙◌, ap, codes, nat_le}
+use Rattle.std.proofs.Common.{◌≡◌, ℕ, ◌≤◌, Bool, true, false, List, [], ◌∷◌, ◌++◌, length, ◌↔◌, Option, Some, None, ◌==◌, ◌&&◌, ◌||◌, arith, refl, sym, ◌∙◌, ap, codes, nat_le}
 use Rattle.std.specs.Prelude.{if◌then◌else◌}
 use Rattle.std.specs.List.{list_any}
 use Rattle.std.specs.Option.{option_map_or}

@@ -1,5 +1,5 @@
 -- What a policy decides and denies, said of its asks.
-use Rattle.std.proofs.Common.{◌≡◌, Bool, true, false, List, [], ◌∷◌, ◌++◌, Option, ◌↔◌, refl, ◌∙◌, ap, map, filter, not}
+use Rattle.std.proofs.Common.{◌≡◌, Bool, true, false, List, [], ◌∷◌, ◌++◌, Option, ◌↔◌, refl, ◌∙◌, ap, map, filter}
 use Rattle.std.specs.Prelude.{ℕ, if◌then◌else◌}
 use Rattle.std.proofs.lemmas.List.{map-append}
 use Rattle.std.proofs.lemmas.List.Elements.{filter-append}

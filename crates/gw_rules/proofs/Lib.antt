@@ -4,6 +4,7 @@ pub mod EachAsk
 pub mod EachField
 pub mod Equality
 pub mod First
+pub mod Grouped
 pub mod Hiding
 pub mod Limits
 pub mod Logged
@@ -11,4 +12,5 @@ pub mod Matching
 pub mod Names
 pub mod Numbers
 pub mod Operations
+pub mod Places
 pub mod Quiet

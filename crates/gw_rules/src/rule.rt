@@ -5,6 +5,7 @@ ghost use Rattle.gw_rules.specs.Hides.{may_match, may_match_some, must_match, mu
 ghost use Rattle.gw_rules.specs.Name.{is_name};
 ghost use Rattle.gw_rules.specs.Fields.{in_each, value_of, with_value};
 ghost use Rattle.gw_rules.specs.Rule.{has_few_ranges, has_long_ranges, has_ordered_ranges, matches, quiet_mark, ranges_of, rule_without_fields, with_range};
+ghost use Rattle.gw_rules.specs.internal.Grouped.{meets_object, meets_others, names_another};
 
 use crate::ranges::{admit, are_ordered, are_within};
 use crate::{Ask, FieldName, Fields, Format, Range, Ranges, RuleFault, RuleName};
@@ -96,13 +97,55 @@ impl Rule {
     }
 
     /// Whether the rule matches the ask.
-    #[tactic(auto, unfolding(crate::specs::Rule::matches))]
     pub fn matches(&self, ask: &Ask) -> bool
         ensures { result ≡ matches self.now ask.now }
     {
+        self.meets_object(ask) && self.meets_others(ask)
+    }
+
+    /// Whether the rule names another field than the operation and the three of an object.
+    pub(crate) fn names_another(&self) -> bool
+        ensures { result ≡ names_another self.now }
+    {
         let ranges = &self.ranges;
-        admit(ranges.operation.as_slice(), ask.operation)
-            && admit(ranges.port.as_slice(), ask.port)
+        !(ranges.port.as_slice().is_empty()
+            && ranges.source_network.as_slice().is_empty()
+            && ranges.source_key.as_slice().is_empty()
+            && ranges.destination_network.as_slice().is_empty()
+            && ranges.service.as_slice().is_empty()
+            && ranges.priority.as_slice().is_empty()
+            && ranges.sender.as_slice().is_empty()
+            && ranges.station.as_slice().is_empty())
+    }
+
+    /// Whether the rule matches the ask, if it names another field than the operation and the three of an object as is said.
+    /// Those of an object come first, since they part most rules from most asks to read.
+    #[inline]
+    pub(crate) fn matches_by(&self, has_another: bool, ask: &Ask) -> bool
+        requires named { has_another ≡ names_another self.now }
+        ensures { result ≡ matches self.now ask.now }
+    {
+        self.meets_object(ask) && (!has_another || self.meets_others(ask))
+    }
+
+    /// Whether the operation and the three fields of an object are met.
+    #[inline]
+    fn meets_object(&self, ask: &Ask) -> bool
+        ensures { result ≡ meets_object ask.now self.now }
+    {
+        let ranges = &self.ranges;
+        admit(ranges.object_type.as_slice(), ask.object_type)
+            && admit(ranges.instance.as_slice(), ask.instance)
+            && admit(ranges.property.as_slice(), ask.property)
+            && admit(ranges.operation.as_slice(), ask.operation)
+    }
+
+    /// Whether the other fields are.
+    fn meets_others(&self, ask: &Ask) -> bool
+        ensures { result ≡ meets_others ask.now self.now }
+    {
+        let ranges = &self.ranges;
+        admit(ranges.port.as_slice(), ask.port)
             && admit(ranges.source_network.as_slice(), ask.source_network)
             && admit(ranges.source_key.as_slice(), ask.source_key)
             && admit(
@@ -110,9 +153,6 @@ impl Rule {
                 ask.destination_network,
             )
             && admit(ranges.service.as_slice(), ask.service)
-            && admit(ranges.object_type.as_slice(), ask.object_type)
-            && admit(ranges.instance.as_slice(), ask.instance)
-            && admit(ranges.property.as_slice(), ask.property)
             && admit(ranges.priority.as_slice(), ask.priority)
             && admit(ranges.sender.as_slice(), ask.sender)
             && admit(ranges.station.as_slice(), ask.station)

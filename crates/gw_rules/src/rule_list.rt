@@ -1,8 +1,9 @@
 //! A policy: rules in order, of which the first that matches an ask decides.
-ghost use Rattle.std.specs.Prelude.{◌≡◌, nat_le, ◌<◌, ◌↔◌, ◌&&◌, Bool, IsTrue, true, find, List, ℕ, Option, option_copied, IsFalse, IsOk, IfOk, IfSome, IsErrOf, [], false, length, position};
+ghost use Rattle.std.specs.Prelude.{◌≡◌, nat_le, ◌≤◌, ◌<◌, ◌↔◌, ◌&&◌, Bool, IsTrue, true, find, List, ℕ, Option, option_copied, IsFalse, IsOk, IfOk, IfSome, IsErrOf, [], false, length, position};
 ghost use Rattle.std.specs.List.{list_all};
 ghost use Rattle.gw_rules.specs.declared.rule.Rule.{Rule};
-ghost use Rattle.gw_rules.specs.declared.rule_list.TheConstants.{MAX_RANGES_IN_ALL};
+ghost use Rattle.gw_rules.specs.declared.rule_list.TheConstants.{MAX_RANGES_IN_ALL, MAX_RULES};
+ghost use Rattle.gw_rules.specs.internal.Grouped.{SayOthers};
 ghost use Rattle.gw_rules.specs.Hides.{HidesFrom, HidesFromNetwork, IsHidden, hides, may_match, may_match_some, must_match, must_match_all, reading, settles};
 ghost use Rattle.gw_rules.specs.Rule.{each_field, has_few_ranges, has_long_ranges, matches};
 ghost use Rattle.gw_rules.specs.RuleList.{IsNumberOf, KeepsLongCounts, KeepsOrder, allows, decide, first, is_quiet_at, is_quiet_by, keeps_counts, keeps_long_counts, keeps_order, ranges_in_all};
@@ -22,18 +23,21 @@ pub const MAX_RANGES_IN_ALL: usize = 2048;
 #[derive(Drop)]
 pub struct RuleList {
     rules: Vec<Rule>,
+    /// Of each rule, in order, whether it names another field than the operation and the three of an object.
+    others: [bool; MAX_RULES],
 }
 
 impl Model for RuleList {
     ghost use Rattle.std.specs.Prelude.{◌&&◌, IsTrue, List};
     ghost use Rattle.gw_rules.specs.declared.rule.Rule.{Rule};
     ghost use Rattle.gw_rules.specs.RuleList.{keeps_long_counts, keeps_order};
+    ghost use Rattle.gw_rules.specs.internal.Grouped.{SayOthers};
 
     ghost Value = { List Rule };
 
     ghost view = { λ a. a.rules.items };
 
-    ghost invariant = { λ a. IsTrue (keeps_long_counts a.rules.items && keeps_order a.rules.items) };
+    ghost invariant = { λ a. IsTrue (keeps_long_counts a.rules.items && keeps_order a.rules.items) × SayOthers a.others a.rules.items };
 }
 
 impl RuleList {
@@ -55,7 +59,8 @@ impl RuleList {
         if !are_ordered(&rules) {
             return Err(RuleFault::Range);
         }
-        Ok(RuleList { rules })
+        let others = others_of(&rules);
+        Ok(RuleList { rules, others })
     }
 
     /// The policy of these rules in their order, with many ranges for a field. It takes no memory, so it
@@ -79,7 +84,8 @@ impl RuleList {
         if !are_ordered(&rules) {
             return Err(RuleFault::Range);
         }
-        Ok(RuleList { rules })
+        let others = others_of(&rules);
+        Ok(RuleList { rules, others })
     }
 
     /// The rules in order.
@@ -146,7 +152,7 @@ impl RuleList {
         ensures no_rules { self.now ≡ [] → result.1 ≡ false }
     {
         let rules = self.rules();
-        match place_of(rules, ask) {
+        match place_of(rules, &self.others, ask) {
             Some(place) => (Some(place as u16 + 1), rules[place].allow),
             None => (None, false),
         }
@@ -225,11 +231,32 @@ fn denies(rule: Option<&Rule>) -> bool
     }
 }
 
-fn place_of(rules: &[Rule], ask: &Ask) -> Option<usize>
+/// The place of the first rule that matches the ask, if one does, by what each names.
+#[inline]
+fn place_of(rules: &[Rule], others: &[bool; MAX_RULES], ask: &Ask) -> Option<usize>
+    requires few { length rules.now ≤ MAX_RULES }
+    requires others { SayOthers others.now rules.now }
     ensures place { result ≡ position (λ rule. matches rule ask.now) rules.now }
     ensures within { IfSome result (λ place. place < length rules.now) }
 {
-    rules.iter().position(|rule| rule.matches(ask))
+    for (place, rule) in rules.iter().enumerate() {
+        if rule.matches_by(others[place], ask) {
+            return Some(place);
+        }
+    }
+    None
+}
+
+/// Of each rule, whether it names another field than the operation and the three of an object.
+fn others_of(rules: &[Rule]) -> [bool; MAX_RULES]
+    requires few { length rules.now ≤ MAX_RULES }
+    ensures { SayOthers result rules.now }
+{
+    let mut others = [true; MAX_RULES];
+    for (place, rule) in rules.iter().enumerate() {
+        others[place] = rule.names_another();
+    }
+    others
 }
 
 fn are_few(rules: &[Rule]) -> bool

@@ -1,4 +1,4 @@
-use Rattle.std.proofs.Common.{◌≡◌, ◌+◌, ◌++◌, ℕ, List, ap, length, refl, ◌∙◌, sym, take}
+use Rattle.std.proofs.Common.{◌≡◌, ◌+◌, ◌++◌, ℕ, List, ap, length, ◌∙◌, take}
 use Rattle.std.proofs.Math.Seq.{take-append-add, take-append_seam}
 use Rattle.gw_rules.proofs.name.joined.Goals as goal
 
