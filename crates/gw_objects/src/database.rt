@@ -21,7 +21,7 @@ ghost use Rattle.gw_objects.specs.internal.View.{contents_view, database_with};
 use crate::contents::Contents;
 use crate::property::{properties, property_of};
 use crate::table::{device_line, object_line};
-use crate::write::{Act, Put, check};
+use crate::write::{Act, AskedWrite, Put};
 use crate::writing::write_contents;
 use crate::{
     Configured, ConfiguredObject, ObjectType, Property, PropertySet, PropertyValue, ReadFault,
@@ -140,6 +140,7 @@ impl ObjectDb {
     /// 1 `UnknownObject`, 2 `UnknownProperty`, 3 `NotArray`, 4 `BadIndex` and 5 `Memory`, as
     /// [`ReadFault`] says. Then the buffer holds what it held. `Memory` comes only where it had no
     /// room for the octets.
+    #[tactic(auto, unfolding(crate::specs::Table::read_of))]
     pub fn read(
         &self,
         id: ObjectId,
@@ -155,7 +156,8 @@ impl ObjectDb {
             → result ≢ Err ReadFault.Memory }
         ensures capacity { vec_capacity out.old ≤ vec_capacity out.new }
     {
-        read(&self.configured, &self.states, id, property, index, out)
+        let contents = contents(&self.configured, &self.states, id, property)?;
+        append(out, &contents, index)
     }
 
     /// What a write of a property does, or its first fault; nothing changes. The octets are those
@@ -181,15 +183,14 @@ impl ObjectDb {
             (write_of self.now.configured (object_view id) property index priority value.now) }
         ensures place { IfOk result (λ put. put.place < length self.now.configured.objects) }
     {
-        check(
-            alloc,
-            &self.configured,
+        let write = AskedWrite {
             id,
             property,
             index,
             priority,
             value,
-        )
+        };
+        write.check(alloc, &self.configured)
     }
 
     /// Makes a write, which `check` of these objects gave (clause 19.2). It takes no memory.
@@ -230,32 +231,6 @@ fn make(slots: &mut PriorityArray<PropertyValue>, act: Act)
         }
         Act::SetDefault(value) => slots.set_default(value),
     }
-}
-
-/// Appends the octets of a property, or of one element of it. After an `Err` the buffer holds what
-/// it held.
-#[tactic(auto, unfolding(crate::specs::Table::read_of))]
-fn read(
-    configured: &Configured,
-    states: &[PriorityArray<PropertyValue>],
-    id: ObjectId,
-    property: u32,
-    index: Option<u32>,
-    out: &mut Vec<u8>,
-) -> Result<(), ReadFault>
-    requires { length states.now ≡ length configured.now.objects }
-    ensures answer { Answers result
-        (read_of (database_with configured.now states.now) (object_view id) property index)
-        out.old.items out.new.items }
-    ensures err { OnErr result (out.new.items ≡ out.old.items) }
-    ensures room { HasRoom
-        (read_of (database_with configured.now states.now) (object_view id) property index)
-        (vec_len out.old) (vec_capacity out.old)
-        → result ≢ Err ReadFault.Memory }
-    ensures capacity { vec_capacity out.old ≤ vec_capacity out.new }
-{
-    let contents = contents(configured, states, id, property)?;
-    append(out, &contents, index)
 }
 
 /// Appends what a property holds, or one element of it. After an `Err` the buffer holds what it

@@ -64,49 +64,70 @@ impl Put {
     }
 }
 
-/// The write, or its first fault.
-#[tactic(auto, unfolding(crate::specs::Write::write_of))]
-pub(crate) fn check(
-    alloc: Global,
-    configured: &Configured,
-    id: ObjectId,
-    property: u32,
-    index: Option<u32>,
-    priority: u8,
-    value: &[u8],
-) -> Result<Put, WriteFault>
-    requires { IsPriority priority }
-    ensures write { Decides (λ put. put) writes_text result
-        (write_of configured.now (object_view id) property index priority value.now) }
-    ensures place { IfOk result (λ put. put.place < length configured.now.objects) }
-{
-    if same(id, configured.device_id()) {
-        return Err(device_fault(property));
-    }
-    let Some(place) = place_of(configured, id) else {
-        return Err(WriteFault::UnknownObject);
-    };
-    let object = &configured.objects.as_slice()[place];
-    object_write(alloc, place, object, property, index, priority, value)
+/// A write that is asked for.
+#[derive(Drop)]
+pub(crate) struct AskedWrite<'a> {
+    /// The object that it names.
+    pub id: ObjectId,
+    /// The number of the property.
+    pub property: u32,
+    /// The index that it names, if it names one.
+    pub index: Option<u32>,
+    /// Its priority, 1 to 16.
+    pub priority: u8,
+    /// The octets of the value.
+    pub value: &'a [u8],
 }
 
-/// A write to the value object at that place.
-fn object_write(
-    alloc: Global,
-    place: usize,
-    object: &ConfiguredObject,
-    property: u32,
-    index: Option<u32>,
-    priority: u8,
-    value: &[u8],
-) -> Result<Put, WriteFault>
-    requires { IsPriority priority }
-    ensures write { Decides (λ put. put) writes_text result
-        (object_write place object.now property index priority value.now) }
-    ensures place { IfOk result (λ put. put.place ≡ place) }
-{
-    let act = object_act(alloc, object, property, index, priority, value)?;
-    Ok(Put { place, act })
+impl AskedWrite<'_> {
+    /// What it does, or its first fault.
+    #[tactic(auto, unfolding(crate::specs::Write::write_of))]
+    pub fn check(&self, alloc: Global, configured: &Configured) -> Result<Put, WriteFault>
+        requires { IsPriority self.now.priority }
+        ensures write { Decides (λ put. put) writes_text result
+            (write_of configured.now (object_view self.now.id) self.now.property self.now.index
+            self.now.priority self.now.value.now) }
+        ensures place { IfOk result (λ put. put.place < length configured.now.objects) }
+    {
+        if same(self.id, configured.device_id()) {
+            return Err(device_fault(self.property));
+        }
+        let Some(place) = place_of(configured, self.id) else {
+            return Err(WriteFault::UnknownObject);
+        };
+        self.check_object(alloc, place, &configured.objects.as_slice()[place])
+    }
+
+    /// What it does to the value object at that place, or its first fault.
+    fn check_object(
+        &self,
+        alloc: Global,
+        place: usize,
+        object: &ConfiguredObject,
+    ) -> Result<Put, WriteFault>
+        requires { IsPriority self.now.priority }
+        ensures write { Decides (λ put. put) writes_text result
+            (object_write place object.now self.now.property self.now.index self.now.priority
+            self.now.value.now) }
+        ensures place { IfOk result (λ put. put.place ≡ place) }
+    {
+        let act = self.act_on(alloc, object)?;
+        Ok(Put { place, act })
+    }
+
+    /// What it does to a value object, wherever that is, or its first fault.
+    fn act_on(&self, alloc: Global, object: &ConfiguredObject) -> Result<Act, WriteFault>
+        requires { IsPriority self.now.priority }
+        ensures act { Decides (λ act. act_view act) puts_text result
+            (act_of object.now self.now.property self.now.index self.now.priority
+            self.now.value.now) }
+        ensures can { IfOk result (λ act. CanAct (act_view act)) }
+    {
+        let kind = object.details.object_type();
+        let property = property_for(kind, self.property, self.index, self.priority)?;
+        let value = whole(self.value)?;
+        act_for(alloc, &object.details, property, self.priority, &value)
+    }
 }
 
 /// Why a property of the Device object isn't written.
@@ -117,25 +138,6 @@ fn device_fault(property: u32) -> WriteFault
         Some(_) => WriteFault::NotWritable,
         None => WriteFault::UnknownProperty,
     }
-}
-
-/// What a write does to a value object.
-fn object_act(
-    alloc: Global,
-    object: &ConfiguredObject,
-    property: u32,
-    index: Option<u32>,
-    priority: u8,
-    value: &[u8],
-) -> Result<Act, WriteFault>
-    requires { IsPriority priority }
-    ensures act { Decides (λ act. act_view act) puts_text result
-        (act_of object.now property index priority value.now) }
-    ensures can { IfOk result (λ act. CanAct (act_view act)) }
-{
-    let property = property_for(object.details.object_type(), property, index, priority)?;
-    let value = whole(value)?;
-    act_for(alloc, &object.details, property, priority, &value)
 }
 
 /// The property, where it can be written.
