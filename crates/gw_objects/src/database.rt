@@ -1,16 +1,13 @@
 //! The objects of a device, with their values.
 ghost use Rattle.std.specs.Prelude.{◌≡◌, ◌≢◌, ◌<◌, ◌≤◌, List, [], ◌∷◌, length, slice_get};
-ghost use Rattle.std.specs.Prelude.{vec_len, find, Err, option_copied, option_map, IfOk};
-ghost use Rattle.std.specs.Prelude.{IfSome, OnErr};
+ghost use Rattle.std.specs.Prelude.{vec_len, Err, option_copied, option_map, IfOk, OnErr};
 ghost use Rattle.std.specs.Option.{ok_or};
 ghost use Rattle.std.specs.Vec.{vec_capacity};
 ghost use Rattle.gw_addr.specs.Reading.{Gives};
 ghost use Rattle.gw_tables.specs.priority.Commandable.{IsPriority};
 ghost use Rattle.gw_codecs.specs.tags.Object.{object_view};
-ghost use Rattle.gw_objects.specs.Objects.{database_of, defaults_of, is_name, name_at, named};
-ghost use Rattle.gw_objects.specs.Objects.{place_of, same, type_at};
+ghost use Rattle.gw_objects.specs.Objects.{database_of, defaults_of, name_at, named, same, type_at};
 ghost use Rattle.gw_objects.specs.Table.{contents_of, object_at, read_of};
-ghost use Rattle.gw_objects.specs.Contents.{octets_of};
 ghost use Rattle.gw_objects.specs.Property.{properties, property_of};
 ghost use Rattle.gw_objects.specs.History.{IsStateAfter, acted, put_at, with_write};
 ghost use Rattle.gw_objects.specs.Write.{CanAct, Decides, Write, write_of, writes_text};
@@ -114,7 +111,11 @@ impl ObjectDb {
     pub fn name(&self, id: ObjectId) -> Option<&Text>
         ensures { option_copied result ≡ name_at self.now.configured (object_view id) }
     {
-        name(&self.configured, id)
+        if same(id, self.configured.device_id()) {
+            return Some(&self.configured.device.name);
+        }
+        let place = self.configured.objects.place_of(id)?;
+        Some(&self.configured.objects.as_slice()[place].name)
     }
 
     /// What is configured of the objects.
@@ -157,7 +158,12 @@ impl ObjectDb {
         ensures capacity { vec_capacity out.old ≤ vec_capacity out.new }
     {
         let contents = contents(&self.configured, &self.states, id, property)?;
-        append(out, &contents, index)
+        let len = out.len();
+        let written = write_contents(out, &contents, index);
+        if written.is_err() {
+            out.truncate(len);
+        }
+        written
     }
 
     /// What a write of a property does, or its first fault; nothing changes. The octets are those
@@ -233,38 +239,11 @@ fn make(slots: &mut PriorityArray<PropertyValue>, act: Act)
     }
 }
 
-/// Appends what a property holds, or one element of it. After an `Err` the buffer holds what it
-/// held.
-fn append(out: &mut Vec<u8>, contents: &Contents<'_>, index: Option<u32>) -> Result<(), ReadFault>
-    ensures answer { Answers result (octets_of (contents_view contents.now) index)
-        out.old.items out.new.items }
-    ensures err { OnErr result (out.new.items ≡ out.old.items) }
-    ensures room { HasRoom (octets_of (contents_view contents.now) index)
-        (vec_len out.old) (vec_capacity out.old)
-        → result ≢ Err ReadFault.Memory }
-    ensures capacity { vec_capacity out.old ≤ vec_capacity out.new }
-{
-    let len = out.len();
-    let written = write_contents(out, contents, index);
-    if written.is_err() {
-        out.truncate(len);
-    }
-    written
-}
-
 /// Whether two identifiers are one.
 pub(crate) fn same(a: ObjectId, b: ObjectId) -> bool
     ensures { result ≡ same (object_view a) (object_view b) }
 {
     a.kind == b.kind && a.instance == b.instance
-}
-
-/// The place of a value object.
-pub(crate) fn place_of(configured: &Configured, id: ObjectId) -> Option<usize>
-    ensures place { result ≡ place_of configured.now (object_view id) }
-    ensures within { IfSome result (λ place. place < length configured.now.objects) }
-{
-    configured.objects.place_of(id)
 }
 
 fn find(configured: &Configured, id: ObjectId) -> Option<ObjectType>
@@ -273,20 +252,8 @@ fn find(configured: &Configured, id: ObjectId) -> Option<ObjectType>
     if same(id, configured.device_id()) {
         return Some(ObjectType::Device);
     }
-    match place_of(configured, id) {
+    match configured.objects.place_of(id) {
         Some(place) => Some(configured.objects.as_slice()[place].details.object_type()),
-        None => None,
-    }
-}
-
-fn name(configured: &Configured, id: ObjectId) -> Option<&Text>
-    ensures { option_copied result ≡ name_at configured.now (object_view id) }
-{
-    if same(id, configured.device_id()) {
-        return Some(&configured.device.name);
-    }
-    match place_of(configured, id) {
-        Some(place) => Some(&configured.objects.as_slice()[place].name),
         None => None,
     }
 }
@@ -313,7 +280,7 @@ fn object<'a>(
     ensures { Gives (λ x. (x.0.now, x.1.now)) result
         (object_at (database_with configured.now states.now) (object_view id)) }
 {
-    match place_of(configured, id) {
+    match configured.objects.place_of(id) {
         Some(place) => Ok((&configured.objects.as_slice()[place], &states[place])),
         None => Err(ReadFault::UnknownObject),
     }

@@ -11,7 +11,7 @@ ghost use Rattle.gw_objects.specs.Write.{is_text, present_act, property_for, put
 ghost use Rattle.gw_objects.specs.Write.{value_for, whole, write_of, writes_text};
 ghost use Rattle.gw_objects.specs.internal.Act.{act_view};
 
-use crate::database::{place_of, same};
+use crate::database::same;
 use crate::property::property_of;
 use crate::value::is_state;
 use crate::{
@@ -92,7 +92,7 @@ impl AskedWrite<'_> {
         if same(self.id, configured.device_id()) {
             return Err(device_fault(self.property));
         }
-        let Some(place) = place_of(configured, self.id) else {
+        let Some(place) = configured.objects.place_of(self.id) else {
             return Err(WriteFault::UnknownObject);
         };
         self.check_object(alloc, place, &configured.objects.as_slice()[place])
