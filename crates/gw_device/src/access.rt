@@ -1,4 +1,4 @@
-//! The objects of the device as an APDU has access to them: only by asking the policy.
+//! The objects of the device as an APDU has access to them: only by asking the policy. Each service is a method here.
 
 ghost use Rattle.std.specs.Prelude.{◌≡◌};
 ghost use Rattle.gw_codecs.specs.tags.Object.{object_view};
@@ -14,7 +14,7 @@ const ANY_INSTANCE: u32 = 4_194_303;
 
 /// The objects of the device, and what is known of the APDU that wants access to them.
 #[derive(Clone, Copy)]
-pub(crate) struct Access<'a> {
+pub struct Access<'a> {
     /// The objects.
     pub objects: &'a ObjectDb,
     /// What is known of the APDU beside its octets.
@@ -23,7 +23,7 @@ pub(crate) struct Access<'a> {
 
 impl Access<'_> {
     /// The ask for a property of an object.
-    pub fn property_ask(
+    pub(crate) fn property_ask(
         &self,
         operation: Operation,
         service: Service,
@@ -50,7 +50,7 @@ impl Access<'_> {
     }
 
     /// The object that a read names.
-    pub fn named_object(&self, object: ObjectId) -> ObjectId
+    pub(crate) fn named_object(&self, object: ObjectId) -> ObjectId
         ensures { object_view result
             ≡ named_object self.now.objects.now.configured (object_view object) }
     {

@@ -6,8 +6,7 @@ ghost use Rattle.gw_objects.specs.History.{IsStateAfter, with_write};
 ghost use Rattle.gw_objects.specs.Objects.{database_of, defaults_of};
 ghost use Rattle.gw_objects.specs.Write.{Write};
 
-use crate::access::Access;
-use crate::{Change, Context};
+use crate::{Access, Change, Context};
 use gw_configuration::Config;
 use gw_objects::{Configured, ObjectDb, PropertyValue};
 use gw_tables::priority::PriorityArray;
@@ -73,8 +72,8 @@ impl Device {
         self.objects.configured()
     }
 
-    /// The objects, for an APDU of which this is known.
-    pub(crate) fn access<'a>(&'a self, context: &'a Context) -> Access<'a>
+    /// The objects, for an APDU of which this is known beside its octets.
+    pub fn access<'a>(&'a self, context: &'a Context) -> Access<'a>
         ensures objects { result.objects.now ≡ self.now }
         ensures context { result.context.now ≡ context.now }
     {

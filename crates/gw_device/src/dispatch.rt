@@ -6,21 +6,17 @@ ghost use Rattle.gw_codecs.specs.apdu.Reasons.{segmentation_not_supported};
 ghost use Rattle.gw_rules.specs.declared.rule.Rule.{Rule};
 ghost use Rattle.gw_codecs.specs.services.MultiReading.{multi_at};
 ghost use Rattle.gw_codecs.specs.services.Read.{read_at};
-ghost use Rattle.gw_codecs.specs.services.WhoHas.{who_has_at};
-ghost use Rattle.gw_codecs.specs.services.WhoIs.{who_is_at};
 ghost use Rattle.gw_codecs.specs.services.Write.{write_at};
-ghost use Rattle.gw_device.specs.Device.{confirmed_response, device_answer, device_asks, device_response, or_reject, or_silence};
+ghost use Rattle.gw_device.specs.Device.{confirmed_response, device_answer, device_asks, device_response, or_reject};
 ghost use Rattle.gw_device.specs.Device.{unconfirmed_response};
 ghost use Rattle.gw_device.specs.Multi.{multi_response};
 ghost use Rattle.gw_device.specs.Read.{read_response};
 ghost use Rattle.gw_device.specs.Response.{HasPlace, IsServed, turned_down};
-ghost use Rattle.gw_device.specs.WhoHas.{who_has_response};
-ghost use Rattle.gw_device.specs.WhoIs.{who_is_response};
 ghost use Rattle.gw_device.specs.Write.{write_response};
 
 use crate::error::reject_reason;
 use crate::short::{abort, reject};
-use crate::{Context, Device, Served};
+use crate::{Access, Context, Device, Served};
 use gw_codecs::apdu::{AbortReason, ConfirmedRequest, Header, RejectReason, decode};
 use gw_codecs::services::{
     READ_PROPERTY, READ_PROPERTY_MULTIPLE, WHO_HAS, WHO_IS, WRITE_PROPERTY, decode_multi,
@@ -47,10 +43,9 @@ fn aborted(spare: &mut Vec<u8>, invoke: u8) -> Result<Served, AllocError>
     Ok(Served::to_client(octets))
 }
 
-impl Device {
+impl Access<'_> {
     fn read_property<A: Asker>(
         &self,
-        context: &Context,
         header: &ConfirmedRequest,
         body: &[u8],
         asker: &mut A,
@@ -58,24 +53,23 @@ impl Device {
     ) -> Result<Served, AllocError>
         ensures served { (rules : List Rule) → A.StandsFor asker.old rules →
             IfOk result (IsServed (or_reject header.now.invoke
-            (read_response rules self.now context.now header.now) (read_at body.now))) }
+            (read_response rules self.now.objects.now self.now.context.now header.now) (read_at body.now))) }
         ensures asks { (rules : List Rule) → A.StandsFor asker.old rules →
             let due = or_reject header.now.invoke
-            (read_response rules self.now context.now header.now) (read_at body.now) in
+            (read_response rules self.now.objects.now self.now.context.now header.now) (read_at body.now) in
             OnOk result (A.kept asker.new ≡ A.kept asker.old ++ A.kept_of rules due.asks) }
         ensures stays { (rules : List Rule) → A.StandsFor asker.old rules →
             A.StandsFor asker.new rules }
         ensures place { IfOk result (λ served. served.change ≡ None) }
     {
         match decode_read(body) {
-            Ok(request) => self.read(context, header, &request, asker, spare),
+            Ok(request) => self.read(header, &request, asker, spare),
             Err(fault) => rejected(spare, header.invoke, reject_reason(fault)?),
         }
     }
 
     fn read_property_multiple<A: Asker>(
         &self,
-        context: &Context,
         header: &ConfirmedRequest,
         body: &[u8],
         asker: &mut A,
@@ -83,24 +77,23 @@ impl Device {
     ) -> Result<Served, AllocError>
         ensures served { (rules : List Rule) → A.StandsFor asker.old rules →
             IfOk result (IsServed (or_reject header.now.invoke
-            (multi_response rules self.now context.now header.now) (multi_at body.now))) }
+            (multi_response rules self.now.objects.now self.now.context.now header.now) (multi_at body.now))) }
         ensures asks { (rules : List Rule) → A.StandsFor asker.old rules →
             let due = or_reject header.now.invoke
-            (multi_response rules self.now context.now header.now) (multi_at body.now) in
+            (multi_response rules self.now.objects.now self.now.context.now header.now) (multi_at body.now) in
             OnOk result (A.kept asker.new ≡ A.kept asker.old ++ A.kept_of rules due.asks) }
         ensures stays { (rules : List Rule) → A.StandsFor asker.old rules →
             A.StandsFor asker.new rules }
         ensures place { IfOk result (λ served. served.change ≡ None) }
     {
         match decode_multi(asker.alloc(), body) {
-            Ok(request) => self.read_multiple(context, header, &request, asker, spare),
+            Ok(request) => self.read_multiple(header, &request, asker, spare),
             Err(fault) => rejected(spare, header.invoke, reject_reason(fault)?),
         }
     }
 
     fn write_property<A: Asker>(
         &self,
-        context: &Context,
         header: &ConfirmedRequest,
         body: &[u8],
         asker: &mut A,
@@ -108,17 +101,17 @@ impl Device {
     ) -> Result<Served, AllocError>
         ensures served { (rules : List Rule) → A.StandsFor asker.old rules →
             IfOk result (IsServed (or_reject header.now.invoke
-            (write_response rules self.now context.now header.now.invoke) (write_at body.now))) }
+            (write_response rules self.now.objects.now self.now.context.now header.now.invoke) (write_at body.now))) }
         ensures asks { (rules : List Rule) → A.StandsFor asker.old rules →
             let due = or_reject header.now.invoke
-            (write_response rules self.now context.now header.now.invoke) (write_at body.now) in
+            (write_response rules self.now.objects.now self.now.context.now header.now.invoke) (write_at body.now) in
             OnOk result (A.kept asker.new ≡ A.kept asker.old ++ A.kept_of rules due.asks) }
         ensures stays { (rules : List Rule) → A.StandsFor asker.old rules →
             A.StandsFor asker.new rules }
-        ensures place { IfOk result (λ served. HasPlace self.now served.change) }
+        ensures place { IfOk result (λ served. HasPlace self.now.objects.now served.change) }
     {
         match decode_write(body) {
-            Ok(request) => self.write(context, header.invoke, &request, asker, spare),
+            Ok(request) => self.write(header.invoke, &request, asker, spare),
             Err(fault) => rejected(spare, header.invoke, reject_reason(fault)?),
         }
     }
@@ -126,7 +119,6 @@ impl Device {
     /// A confirmed request, by its service. One to a broadcast is dropped, and a segment is aborted.
     fn confirmed<A: Asker>(
         &self,
-        context: &Context,
         header: &ConfirmedRequest,
         body: &[u8],
         asker: &mut A,
@@ -134,30 +126,28 @@ impl Device {
     ) -> Result<Served, AllocError>
         ensures served { (rules : List Rule) → A.StandsFor asker.old rules →
             IfOk result (IsServed
-            (confirmed_response rules self.now context.now header.now body.now)) }
+            (confirmed_response rules self.now.objects.now self.now.context.now header.now body.now)) }
         ensures asks { (rules : List Rule) → A.StandsFor asker.old rules →
-            let due = confirmed_response rules self.now context.now header.now body.now in
+            let due = confirmed_response rules self.now.objects.now self.now.context.now header.now body.now in
             OnOk result (A.kept asker.new ≡ A.kept asker.old ++ A.kept_of rules due.asks) }
         ensures stays { (rules : List Rule) → A.StandsFor asker.old rules →
             A.StandsFor asker.new rules }
-        ensures place { IfOk result (λ served. HasPlace self.now served.change) }
+        ensures place { IfOk result (λ served. HasPlace self.now.objects.now served.change) }
         // What isn't answered needs no memory.
         ensures silent { (rules : List Rule) →
-            let due = confirmed_response rules self.now context.now header.now body.now in
+            let due = confirmed_response rules self.now.objects.now self.now.context.now header.now body.now in
             due.answer ≡ None → IsOk result }
     {
-        if context.broadcast {
+        if self.context.broadcast {
             return Ok(Served::silence());
         }
         if header.segment.is_some() {
             return aborted(spare, header.invoke);
         }
         match header.service {
-            READ_PROPERTY => self.read_property(context, header, body, asker, spare),
-            READ_PROPERTY_MULTIPLE => self.read_property_multiple(
-                context, header, body, asker, spare,
-            ),
-            WRITE_PROPERTY => self.write_property(context, header, body, asker, spare),
+            READ_PROPERTY => self.read_property(header, body, asker, spare),
+            READ_PROPERTY_MULTIPLE => self.read_property_multiple(header, body, asker, spare),
+            WRITE_PROPERTY => self.write_property(header, body, asker, spare),
             _ => {
                 let reason = RejectReason::UNRECOGNIZED_SERVICE;
                 rejected(spare, header.invoke, reason)
@@ -168,7 +158,6 @@ impl Device {
     /// An unconfirmed request, by its service. What can't be read is dropped.
     fn unconfirmed<A: Asker>(
         &self,
-        context: &Context,
         service: u8,
         body: &[u8],
         asker: &mut A,
@@ -176,31 +165,33 @@ impl Device {
     ) -> Result<Served, AllocError>
         ensures served { (rules : List Rule) → A.StandsFor asker.old rules →
             IfOk result (IsServed
-            (unconfirmed_response rules self.now context.now service body.now)) }
+            (unconfirmed_response rules self.now.objects.now self.now.context.now service body.now)) }
         ensures asks { (rules : List Rule) → A.StandsFor asker.old rules →
-            let due = unconfirmed_response rules self.now context.now service body.now in
+            let due = unconfirmed_response rules self.now.objects.now self.now.context.now service body.now in
             OnOk result (A.kept asker.new ≡ A.kept asker.old ++ A.kept_of rules due.asks) }
         ensures stays { (rules : List Rule) → A.StandsFor asker.old rules →
             A.StandsFor asker.new rules }
         ensures place { IfOk result (λ served. served.change ≡ None) }
         // What asks nothing needs no memory.
         ensures silent { (rules : List Rule) →
-            let due = unconfirmed_response rules self.now context.now service body.now in
+            let due = unconfirmed_response rules self.now.objects.now self.now.context.now service body.now in
             due.asks ≡ [] → IsOk result }
     {
         match service {
             WHO_HAS => match decode_who_has(body) {
-                Ok(request) => self.who_has(context, &request, asker, spare),
+                Ok(request) => self.who_has(&request, asker, spare),
                 Err(_) => Ok(Served::silence()),
             },
             WHO_IS => match decode_who_is(body) {
-                Ok(request) => self.who_is(context, &request, asker, spare),
+                Ok(request) => self.who_is(&request, asker, spare),
                 Err(_) => Ok(Served::silence()),
             },
             _ => Ok(Served::silence()),
         }
     }
+}
 
+impl Device {
     /// What the device gives to the octets of an APDU, by its type: the answer if there is one, and the
     /// change that is granted, if there is one. What is no APDU, or no request, is dropped. Each ask is put to
     /// `asker`, in order. Nothing is changed. An answer is written into the spare buffer, if that has the room of
@@ -232,12 +223,11 @@ impl Device {
         let Ok(apdu) = decode(apdu) else {
             return Ok(Served::silence());
         };
+        let access = self.access(context);
         match apdu.header {
-            Header::ConfirmedRequest(header) => self.confirmed(
-                context, &header, apdu.rest, asker, spare,
-            ),
-            Header::UnconfirmedRequest { service } => self.unconfirmed(
-                context, service, apdu.rest, asker, spare,
+            Header::ConfirmedRequest(header) => access.confirmed(&header, apdu.rest, asker, spare),
+            Header::UnconfirmedRequest { service } => access.unconfirmed(
+                service, apdu.rest, asker, spare,
             ),
             _ => Ok(Served::silence()),
         }

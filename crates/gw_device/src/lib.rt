@@ -21,6 +21,7 @@ mod who_has;
 mod who_is;
 mod write;
 
+pub use access::Access;
 pub use answer::{Answer, HEADER_ROOM};
 pub use change::Change;
 pub use context::Context;

@@ -13,13 +13,12 @@ ghost use Rattle.gw_device.specs.Response.{IsServed, fitted, with_room};
 ghost use Rattle.gw_device.specs.Services.{set_of};
 ghost use Rattle.gw_device.specs.internal.Limit.{extended};
 
-use crate::access::Access;
 use crate::error::{READ_DENIED, UNKNOWN_OBJECT};
 use crate::limited::Limited;
 use crate::piece::{Piece, PropertyReference};
 use crate::services::set_of;
 use crate::short::{begin_apdu, most_octets};
-use crate::{Context, Device, Served};
+use crate::{Access, Served};
 use gw_codecs::apdu::{ConfirmedRequest, write_complex};
 use gw_codecs::services::{MultiReq, READ_PROPERTY_MULTIPLE, Reference, list_ends};
 use gw_codecs::tags::ObjectId;
@@ -303,9 +302,7 @@ impl Access<'_> {
         let octets = octets.finish(header.invoke)?;
         Ok(octets)
     }
-}
 
-impl Device {
     /// What the device gives to a ReadPropertyMultiple (clause 15.7). Each ask is put to `asker`, in order; nothing
     /// is changed.
     ///
@@ -314,7 +311,6 @@ impl Device {
     /// 1 Memory. The asker may then have kept a part of what it is to keep.
     pub fn read_multiple<A: Asker>(
         &self,
-        context: &Context,
         header: &ConfirmedRequest,
         request: &MultiReq,
         asker: &mut A,
@@ -322,19 +318,17 @@ impl Device {
     ) -> Result<Served, AllocError>
         ensures served { (rules : List Rule) → A.StandsFor asker.old rules →
             let references = multi_view request.now in IfOk result
-            (IsServed (multi_response rules self.now context.now header.now references)) }
+            (IsServed (multi_response rules self.now.objects.now self.now.context.now header.now references)) }
         ensures asks { (rules : List Rule) → A.StandsFor asker.old rules →
             let references = multi_view request.now in
-            let due = multi_response rules self.now context.now header.now references in
+            let due = multi_response rules self.now.objects.now self.now.context.now header.now references in
             OnOk result (A.kept asker.new ≡ A.kept asker.old ++ A.kept_of rules due.asks) }
         ensures stays { (rules : List Rule) → A.StandsFor asker.old rules →
             A.StandsFor asker.new rules }
         ensures place { IfOk result (λ served. served.change ≡ None) }
     {
         let references = request.references.as_slice();
-        let octets = self
-            .access(context)
-            .multi_apdu(header, references, asker, spare)?;
+        let octets = self.multi_apdu(header, references, asker, spare)?;
         Ok(Served::to_client(octets))
     }
 }

@@ -4,15 +4,13 @@ ghost use Rattle.std.specs.Prelude.{None, ◌≡◌, ◌≤◌, ◌++◌, ◌∷
 ghost use Rattle.gw_rules.specs.declared.rule.Rule.{Rule};
 ghost use Rattle.gw_codecs.specs.services.Read.{read_view};
 ghost use Rattle.gw_objects.specs.Table.{read_of};
-ghost use Rattle.gw_codecs.specs.tags.Object.{object_view};
-ghost use Rattle.gw_device.specs.Read.{named_read, or_error, plain_read_response, read_ack, read_answer, read_ask};
+ghost use Rattle.gw_device.specs.Read.{named_read, or_error, read_answer, read_ask};
 ghost use Rattle.gw_device.specs.Read.{read_response, read_value};
 ghost use Rattle.gw_device.specs.Response.{IsServed, with_room};
 
-use crate::access::Access;
 use crate::error::{READ_DENIED, read_error};
 use crate::short::{begin_apdu, error, fit};
-use crate::{Context, Device, HEADER_ROOM, Served};
+use crate::{Access, HEADER_ROOM, Served};
 use gw_codecs::apdu::{ConfirmedRequest, write_complex, write_error};
 use gw_codecs::services::{READ_PROPERTY, ReadReq, write_read_answer_head, write_read_answer_tail};
 use gw_rules::{Ask, Asker, Operation, Service};
@@ -98,9 +96,7 @@ impl Access<'_> {
             error(spare, header.invoke, READ_PROPERTY, READ_DENIED)
         }
     }
-}
 
-impl Device {
     /// What the device gives to a ReadProperty (clause 15.5). Its ask is put to `asker`; nothing is changed.
     ///
     /// # Errors
@@ -108,7 +104,6 @@ impl Device {
     /// 1 Memory. The asker may then have kept a part of what it is to keep.
     pub fn read<A: Asker>(
         &self,
-        context: &Context,
         header: &ConfirmedRequest,
         request: &ReadReq,
         asker: &mut A,
@@ -116,18 +111,17 @@ impl Device {
     ) -> Result<Served, AllocError>
         ensures served { (rules : List Rule) → A.StandsFor asker.old rules →
             let read = read_view request.now in IfOk result
-            (IsServed (read_response rules self.now context.now header.now read)) }
+            (IsServed (read_response rules self.now.objects.now self.now.context.now header.now read)) }
         ensures asks { (rules : List Rule) → A.StandsFor asker.old rules →
             let read = read_view request.now in
-            let due = read_response rules self.now context.now header.now read in
+            let due = read_response rules self.now.objects.now self.now.context.now header.now read in
             OnOk result (A.kept asker.new ≡ A.kept asker.old ++ A.kept_of rules due.asks) }
         ensures stays { (rules : List Rule) → A.StandsFor asker.old rules →
             A.StandsFor asker.new rules }
         ensures place { IfOk result (λ served. served.change ≡ None) }
     {
-        let access = self.access(context);
-        let request = access.named_read(request);
-        let octets = access.read_apdu(header, &request, asker, spare)?;
+        let request = self.named_read(request);
+        let octets = self.read_apdu(header, &request, asker, spare)?;
         Ok(Served::to_client(octets))
     }
 }

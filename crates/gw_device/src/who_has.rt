@@ -1,6 +1,6 @@
 //! Who-Has, which an I-Have answers (clause 16.9).
 
-ghost use Rattle.std.specs.Prelude.{None, ◌≡◌, ◌≤◌, ◌++◌, ◌∷◌, [], List, length, IfOk, IsOk, OnOk};
+ghost use Rattle.std.specs.Prelude.{None, ◌≡◌, ◌≤◌, ◌++◌, [], List, length, IfOk, IsOk, OnOk};
 ghost use Rattle.std.specs.Option.{option_map};
 ghost use Rattle.gw_rules.specs.declared.rule.Rule.{Rule};
 ghost use Rattle.gw_objects.specs.Objects.{name_at};
@@ -9,10 +9,9 @@ ghost use Rattle.gw_codecs.specs.tags.Object.{object_view};
 ghost use Rattle.gw_device.specs.Response.{IsServed, answer_view, announcement_of, with_room};
 ghost use Rattle.gw_device.specs.WhoHas.{i_have_apdu, object_response, sought_object, who_has_ask, who_has_response};
 
-use crate::access::Access;
 use crate::short::begin_apdu;
 use crate::who_is::put_unconfirmed;
-use crate::{Context, Device, Served};
+use crate::{Access, Served};
 use gw_codecs::services::{I_HAVE, IHave, Sought, WHO_HAS, WhoHas, encode_i_have};
 use gw_codecs::tags::{CharacterString, ObjectId};
 use gw_objects::{Configured, Property};
@@ -112,9 +111,7 @@ impl Access<'_> {
             Ok(Served::silence())
         }
     }
-}
 
-impl Device {
     /// What the device gives to a Who-Has (clause 16.9). Its ask, if there is one, is put to `asker`; nothing is
     /// changed.
     ///
@@ -123,17 +120,16 @@ impl Device {
     /// 1 Memory. The asker may then have kept a part of what it is to keep.
     pub fn who_has<A: Asker>(
         &self,
-        context: &Context,
         request: &WhoHas<'_>,
         asker: &mut A,
         spare: &mut Vec<u8>,
     ) -> Result<Served, AllocError>
         ensures served { (rules : List Rule) → A.StandsFor asker.old rules →
             let request = who_has_view request.now in IfOk result
-            (IsServed (who_has_response rules self.now context.now request)) }
+            (IsServed (who_has_response rules self.now.objects.now self.now.context.now request)) }
         ensures asks { (rules : List Rule) → A.StandsFor asker.old rules →
             let request = who_has_view request.now in
-            let due = who_has_response rules self.now context.now request in
+            let due = who_has_response rules self.now.objects.now self.now.context.now request in
             OnOk result (A.kept asker.new ≡ A.kept asker.old ++ A.kept_of rules due.asks) }
         ensures stays { (rules : List Rule) → A.StandsFor asker.old rules →
             A.StandsFor asker.new rules }
@@ -141,15 +137,14 @@ impl Device {
         // What asks nothing needs no memory.
         ensures silent { (rules : List Rule) →
             let request = who_has_view request.now in
-            (who_has_response rules self.now context.now request).asks ≡ []
+            (who_has_response rules self.now.objects.now self.now.context.now request).asks ≡ []
             → IsOk result }
     {
-        let access = self.access(context);
-        if !access.is_within(&request.limits) {
+        if !self.is_within(&request.limits) {
             return Ok(Served::silence());
         }
-        match access.sought_object(&request.sought) {
-            Some(object) => access.about(object, asker, spare),
+        match self.sought_object(&request.sought) {
+            Some(object) => self.about(object, asker, spare),
             None => Ok(Served::silence()),
         }
     }

@@ -1,15 +1,14 @@
 //! Who-Is, which an I-Am answers (clause 16.10).
 
-ghost use Rattle.std.specs.Prelude.{None, ◌≡◌, ◌++◌, ◌∷◌, [], List, IfOk, IsOk, OnOk};
+ghost use Rattle.std.specs.Prelude.{None, ◌≡◌, ◌++◌, [], List, IfOk, IsOk, OnOk};
 ghost use Rattle.std.specs.Option.{option_map};
 ghost use Rattle.gw_rules.specs.declared.rule.Rule.{Rule};
 ghost use Rattle.gw_codecs.specs.services.WhoIs.{limits_view, who_is_view};
 ghost use Rattle.gw_device.specs.Response.{IsServed, with_room};
 ghost use Rattle.gw_device.specs.WhoIs.{i_am_apdu, is_within, unconfirmed, who_is_ask, who_is_response};
 
-use crate::access::Access;
 use crate::short::begin_apdu;
-use crate::{Context, Device, Served};
+use crate::{Access, Served};
 use gw_addr::put_slice;
 use gw_codecs::services::{I_AM, IAm, Limits, Segmentation, WHO_IS, WhoIs, encode_i_am};
 use gw_objects::{Configured, MAX_APDU, Property};
@@ -44,7 +43,7 @@ fn i_am_apdu(spare: &mut Vec<u8>, configured: &Configured) -> Result<Vec<u8>, Al
 
 impl Access<'_> {
     /// Whether the device is asked.
-    pub fn is_within(&self, limits: &Option<Limits>) -> bool
+    pub(crate) fn is_within(&self, limits: &Option<Limits>) -> bool
         ensures { let limits = option_map limits_view limits.now in
             result ≡ is_within limits self.now.objects.now.configured.device.instance }
     {
@@ -66,9 +65,7 @@ impl Access<'_> {
             Property::ObjectIdentifier.number(),
         )
     }
-}
 
-impl Device {
     /// What the device gives to a Who-Is (clause 16.10). Its ask, if there is one, is put to `asker`; nothing is
     /// changed.
     ///
@@ -77,17 +74,16 @@ impl Device {
     /// 1 Memory. The asker may then have kept a part of what it is to keep.
     pub fn who_is<A: Asker>(
         &self,
-        context: &Context,
         request: &WhoIs,
         asker: &mut A,
         spare: &mut Vec<u8>,
     ) -> Result<Served, AllocError>
         ensures served { (rules : List Rule) → A.StandsFor asker.old rules →
             let request = who_is_view request.now in IfOk result
-            (IsServed (who_is_response rules self.now context.now request)) }
+            (IsServed (who_is_response rules self.now.objects.now self.now.context.now request)) }
         ensures asks { (rules : List Rule) → A.StandsFor asker.old rules →
             let request = who_is_view request.now in
-            let due = who_is_response rules self.now context.now request in
+            let due = who_is_response rules self.now.objects.now self.now.context.now request in
             OnOk result (A.kept asker.new ≡ A.kept asker.old ++ A.kept_of rules due.asks) }
         ensures stays { (rules : List Rule) → A.StandsFor asker.old rules →
             A.StandsFor asker.new rules }
@@ -95,17 +91,16 @@ impl Device {
         // What asks nothing needs no memory.
         ensures silent { (rules : List Rule) →
             let request = who_is_view request.now in
-            (who_is_response rules self.now context.now request).asks ≡ []
+            (who_is_response rules self.now.objects.now self.now.context.now request).asks ≡ []
             → IsOk result }
     {
-        let access = self.access(context);
-        if !access.is_within(&request.limits) {
+        if !self.is_within(&request.limits) {
             return Ok(Served::silence());
         }
-        if !asker.authorize(&access.who_is_ask())? {
+        if !asker.authorize(&self.who_is_ask())? {
             return Ok(Served::silence());
         }
-        let octets = i_am_apdu(spare, self.configured())?;
+        let octets = i_am_apdu(spare, self.objects.configured())?;
         Ok(Served::to_everyone(octets))
     }
 }

@@ -1,6 +1,6 @@
 //! WriteProperty (clause 15.9).
 
-ghost use Rattle.std.specs.Prelude.{◌≡◌, ◌++◌, ◌∷◌, [], ◌<◌, List, length, IfOk, IfSome, OnOk};
+ghost use Rattle.std.specs.Prelude.{◌≡◌, ◌++◌, ◌∷◌, [], ◌<◌, List, length, IfOk, OnOk};
 ghost use Rattle.gw_rules.specs.declared.rule.Rule.{Rule};
 ghost use Rattle.gw_addr.specs.Reading.{Gives};
 ghost use Rattle.gw_codecs.specs.services.Limits.{priority_of};
@@ -9,10 +9,9 @@ ghost use Rattle.gw_objects.specs.Write.{write_of};
 ghost use Rattle.gw_device.specs.Write.{or_error, write_answer, write_ask, write_decision, write_response};
 ghost use Rattle.gw_device.specs.Response.{HasPlace, IsServed, with_room};
 
-use crate::access::Access;
 use crate::error::{WRITE_DENIED, write_error};
 use crate::short::{error, simple_ack};
-use crate::{Answer, Change, Context, Device, Served};
+use crate::{Access, Answer, Change, Served};
 use gw_codecs::apdu::ServiceError;
 use gw_codecs::services::{WRITE_PROPERTY, WriteReq};
 use gw_rules::{Ask, Asker, Operation, Service};
@@ -96,9 +95,7 @@ impl Access<'_> {
             Ok(Err(WRITE_DENIED))
         }
     }
-}
 
-impl Device {
     /// What the device gives to a WriteProperty (clause 15.9). Its ask is put to `asker`; nothing is changed.
     ///
     /// # Errors
@@ -106,7 +103,6 @@ impl Device {
     /// 1 Memory. The asker may then have kept a part of what it is to keep.
     pub fn write<A: Asker>(
         &self,
-        context: &Context,
         invoke: u8,
         request: &WriteReq<'_>,
         asker: &mut A,
@@ -114,16 +110,16 @@ impl Device {
     ) -> Result<Served, AllocError>
         ensures served { (rules : List Rule) → A.StandsFor asker.old rules →
             let write = write_view request.now in IfOk result
-            (IsServed (write_response rules self.now context.now invoke write)) }
+            (IsServed (write_response rules self.now.objects.now self.now.context.now invoke write)) }
         ensures asks { (rules : List Rule) → A.StandsFor asker.old rules →
             let write = write_view request.now in
-            let due = write_response rules self.now context.now invoke write in
+            let due = write_response rules self.now.objects.now self.now.context.now invoke write in
             OnOk result (A.kept asker.new ≡ A.kept asker.old ++ A.kept_of rules due.asks) }
         ensures stays { (rules : List Rule) → A.StandsFor asker.old rules →
             A.StandsFor asker.new rules }
-        ensures place { IfOk result (λ served. HasPlace self.now served.change) }
+        ensures place { IfOk result (λ served. HasPlace self.now.objects.now served.change) }
     {
-        let decision = self.access(context).decide(request, asker)?;
+        let decision = self.decide(request, asker)?;
         let octets = write_apdu(spare, invoke, &decision)?;
         Ok(Served {
             answer: Some(Answer {
