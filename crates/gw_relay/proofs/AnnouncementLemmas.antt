@@ -1,8 +1,7 @@
 -- What is announced without being asked.
-use Rattle.std.proofs.Common.{◌≡◌, ap, refl, false, List, [], ◌∷◌}
+use Rattle.std.proofs.Common.{◌≡◌, refl, false, List, [], ◌∷◌}
 use Rattle.std.specs.List.{flat_map}
 use Rattle.gw_relay.specs.Announcement.{announcement, announcements}
-use Rattle.gw_relay.specs.Sends.{Sending}
 use Rattle.gw_relay.specs.State.{Relay}
 use Rattle.gw_relay.specs.declared.port.PortState.{PortState}
 

@@ -18,9 +18,9 @@ use Rattle.gw_frames.specs.bvll.Bvll as bvll
 use Rattle.gw_frames.specs.declared.bvll.writing.TheConstants.{MAX_LEN}
 use Rattle.gw_frames.specs.npdu.Npdu.{Fields}
 use Rattle.gw_frames.specs.npdu.Numbers.{max_len}
-use Rattle.gw_tables.specs.bdt_fdt.Registrations.{Registered, Registrations, emptied, row_later}
+use Rattle.gw_tables.specs.bdt_fdt.Registrations.{Registered, emptied, row_later}
 use Rattle.gw_tables.specs.declared.bdt_fdt.tables.PortTables.{PortTables}
-use Rattle.gw_tables.specs.routes.Table.{Routed, Table, is_fixed, is_learned, is_new, new_networks, route_by}
+use Rattle.gw_tables.specs.routes.Table.{Routed, Table, is_fixed, is_learned, new_networks, route_by}
 use Rattle.gw_tables.proofs.routes_lemmas.Learning.{equal_of, own}
 use Rattle.gw_tables.proofs.routes_lemmas.News.{go_last, new_named, new_once, new_unknown}
 use Rattle.gw_rules.specs.Allowed.{NoneAllowed}
@@ -33,8 +33,8 @@ use Rattle.gw_rules.specs.declared.rule.Rule.{Rule}
 use Rattle.gw_relay.specs.Asks.{management_of}
 use Rattle.gw_relay.specs.Cast.{accepts, cast_asks, is_unregistered, cast_sends, devices, managers, spread}
 use Rattle.gw_relay.specs.Initial.{port_states_from, port_states_with}
-use Rattle.gw_relay.specs.Link.{answer_to, change_of, link_answer, link_change, link_grants, refused}
-use Rattle.gw_relay.specs.Manage.{announced_but, first_learned, i_am_router, is_i_am_router, keep_allowed, learn_ask, manage_asks, manage_change, named_networks, onward_sends}
+use Rattle.gw_relay.specs.Link.{answer_to, change_of, link_change, link_grants, refused}
+use Rattle.gw_relay.specs.Manage.{announced_but, first_learned, i_am_router, is_i_am_router, keep_allowed, learn_ask, manage_asks, named_networks, onward_sends}
 use Rattle.gw_relay.specs.Message.{Message}
 use Rattle.gw_relay.specs.Neighbours as laws
 use Rattle.gw_relay.specs.Neighbours.{IsRefused, all_first_learned, are_bare, first_learned_by, is_bare, refusal_of}

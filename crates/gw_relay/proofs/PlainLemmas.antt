@@ -1,5 +1,5 @@
 -- Where no port has another broadcast manager beside it and nothing is announced, each part is as it was before.
-use Rattle.std.proofs.Common.{◌≡◌, ◌∙◌, ap, refl, Bool, true, false, ◌&&◌, not, List, [], ◌++◌, map, append-nil, Option, Some, None}
+use Rattle.std.proofs.Common.{◌≡◌, ◌∙◌, ap, refl, Bool, true, false, ◌&&◌, List, [], ◌++◌, map, append-nil, Option, Some, None}
 use Rattle.std.specs.Prelude.{if◌then◌else◌}
 use Rattle.std.specs.List.{list_all}
 use Rattle.gw_addr.specs.declared.bip.BipAddr.{BipAddr}
@@ -11,11 +11,10 @@ use Rattle.gw_rules.specs.declared.rule.Rule.{Rule}
 use Rattle.gw_relay.specs.Asks.{link_asks}
 use Rattle.gw_relay.specs.Cast.{cast_asks, cast_response, cast_sends}
 use Rattle.gw_relay.specs.Link.{answer_to, change_of, granted, is_granted, link_answer, link_change, link_grants, refused}
-use Rattle.gw_relay.specs.Manage.{announced_but, first_learned, is_i_am_router, manage_asks, manage_change, manage_steps, onward_sends}
+use Rattle.gw_relay.specs.Manage.{manage_asks, manage_change, manage_steps, onward_sends}
 use Rattle.gw_relay.specs.Message.{Message}
 use Rattle.gw_relay.specs.Neighbours.{PlainBroadcasts, PlainNetworkMessages, PlainTables}
 use Rattle.gw_relay.specs.Plain.{plain_cast_response, plain_link_asks, plain_link_grants}
-use Rattle.gw_relay.specs.Response.{Response}
 use Rattle.gw_relay.specs.Sends.{Sending}
 use Rattle.gw_relay.specs.State.{Relay, is_manager}
 use Rattle.gw_relay.specs.Steps.{sends_of}

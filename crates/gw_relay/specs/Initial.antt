@@ -7,7 +7,7 @@ use Rattle.gw_configuration.specs.Configuration.{Configuration}
 use Rattle.gw_configuration.specs.declared.port.Port.{Port as ConfiguredPort}
 use Rattle.gw_configuration.specs.declared.route.Route.{Route as ConfiguredRoute}
 use Rattle.gw_tables.specs.declared.routes.route.Route.{Route}
-use Rattle.gw_tables.specs.routes.Table.{Routed, learned_by, table_of, route_by}
+use Rattle.gw_tables.specs.routes.Table.{Routed, Table, learned_by, table_of, route_by}
 use Rattle.gw_relay.specs.State.{Relay}
 use Rattle.gw_relay.specs.declared.port.PortState.{PortState}
 use Rattle.gw_relay.specs.declared.port.Port.{Port}
@@ -85,3 +85,9 @@ resumed c tables learned ticks = record {
   routes = learned_by (table_of (direct_of c) (map routed_of c.routes) []) learned;
   ticks = ticks;
 }
+
+-- ---- the routes
+
+-- the table with which both begin, before they learn
+abbrev pub first_table : Configuration → Table
+first_table c = table_of (direct_of c) (map routed_of c.routes) []

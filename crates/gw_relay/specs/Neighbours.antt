@@ -1,8 +1,8 @@
 -- What the two keys come to: without them everything is as it was; a port beside another broadcast manager has no tables
 -- and distributes nothing; and announcements end.
 use Rattle.std.specs.Prelude.{◌≡◌, ℕ, ◌+◌, Bool, true, false, ◌&&◌, ◌||◌, ◌==◌, if◌then◌else◌, List, [], ◌∷◌, ◌++◌, length, map, nat_eq, nat_le}
-use Rattle.std.specs.Prelude.{is_some, Option, Some, None}
-use Rattle.std.specs.List.{list_all, list_any, AllByRecursion, IsDistinct}
+use Rattle.std.specs.Prelude.{is_some, Some, None}
+use Rattle.std.specs.List.{list_any, AllByRecursion, IsDistinct}
 use Rattle.std.specs.Map.{keys_of}
 use Rattle.std.specs.Option.{option_map}
 use Rattle.gw_addr.specs.declared.bip.BipAddr.{BipAddr}

@@ -5,8 +5,7 @@ ghost use Rattle.std.specs.List.{AllByRecursion};
 ghost use Rattle.gw_addr.specs.declared.TheConstants.{MAX_PORTS};
 ghost use Rattle.gw_tables.specs.bdt_fdt.Peers.{has_twice};
 ghost use Rattle.gw_tables.specs.bdt_fdt.Registrations.{emptied};
-ghost use Rattle.gw_tables.specs.routes.Table.{table_of};
-ghost use Rattle.gw_relay.specs.Initial.{direct_of, port_state, port_state_with, port_states_from, port_states_with, routed_of};
+ghost use Rattle.gw_relay.specs.Initial.{first_table, port_state, port_state_with, port_states_from, port_states_with, routed_of};
 
 use crate::port::{Port, PortState};
 use gw_addr::NetNum;
@@ -97,15 +96,15 @@ fn port_state_with(
     })
 }
 
-/// The direct networks and the configured routes.
-pub(crate) fn routes_of(alloc: Global, config: &Config) -> Result<Routes, AllocError>
-    ensures { IfOk result (λ routes.
-        routes ≡ table_of (direct_of config.now) (map routed_of config.now.routes) []) }
+/// The table of routes with which a relay of this configuration begins: the networks of the ports and of the device, and
+/// the configured routes. The only fault is want of memory.
+pub fn first_table(alloc: Global, config: &Config) -> Result<Routes, AllocError>
+    ensures { IfOk result (λ table. table ≡ first_table config.now) }
 {
     let direct = config.own_networks(alloc)?;
     let configured = routed_of(alloc, config.routes())?;
-    let routes = Routes::new(alloc, direct, configured)?;
-    Ok(routes)
+    let table = Routes::new(alloc, direct, configured)?;
+    Ok(table)
 }
 
 /// The configured routes, by their networks.

@@ -29,6 +29,7 @@ mod turn;
 
 pub use ask::sender_of;
 pub use change::Change;
+pub use initial::first_table;
 pub use message::{Message, TableMessage, local_source};
 pub use port::{Port, PortState, port_at};
 pub use relay::Relay;

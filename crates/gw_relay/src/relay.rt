@@ -12,7 +12,7 @@ ghost use Rattle.gw_relay.specs.declared.port.Port.{Port};
 
 use crate::change::Change;
 use crate::commit::{make, tick_each};
-use crate::initial::{port_states, port_states_with, routes_of};
+use crate::initial::{first_table, port_states, port_states_with};
 use crate::port::PortState;
 use gw_addr::NetNum;
 use gw_configuration::Config;
@@ -76,7 +76,7 @@ impl Relay {
             IfOk result (λ relay. IsStateAfter relay.routes (direct_of config.now) configured []) }
     {
         let ports = port_states(alloc, config.ports())?;
-        let routes = routes_of(alloc, config)?;
+        let routes = first_table(alloc, config)?;
         Ok(Relay {
             format: config.format(),
             announces: config.announces(),
@@ -102,7 +102,7 @@ impl Relay {
             (λ relay. relay ≡ resumed config.now tables.items learned.now ticks) }
     {
         let ports = port_states_with(alloc, config.ports(), tables)?;
-        let mut routes = routes_of(alloc, config)?;
+        let mut routes = first_table(alloc, config)?;
         routes.learn_by(learned)?;
         Ok(Relay {
             format: config.format(),

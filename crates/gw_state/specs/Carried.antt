@@ -32,9 +32,13 @@ is_port p s = nat_eq p.network s.network && same_address p.address s.address
 abbrev pub same_entry : BdtEntry → BdtEntry → Bool
 same_entry a b = same_address a.address b.address && pointwise nat_eq a.mask b.mask
 
+-- two lists have the same entries in the same order
+abbrev pub are_same : List BdtEntry → List BdtEntry → Bool
+are_same a b = pointwise same_entry a b
+
 -- the table of peers of a port: the one that was saved, unless other peers are configured now
 abbrev pub entries_from : ConfiguredPort → SavedPort → List BdtEntry
-entries_from p s = if pointwise same_entry s.peers p.peers then s.entries else p.peers
+entries_from p s = if are_same s.peers p.peers then s.entries else p.peers
 
 -- the tables of a port after so many ticks that is the broadcast manager of its subnet: a port that was saved has its foreign
 -- devices, and its table of peers; another begins anew

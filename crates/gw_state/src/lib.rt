@@ -24,4 +24,4 @@ pub use port::SavedPort;
 pub use routes::route_from;
 pub use saved::Saved;
 pub use states::{is_object, object_saved};
-pub use tables::{is_port, port_saved};
+pub use tables::{are_same, is_port, port_saved};

@@ -1,10 +1,9 @@
 //! Which tables a port takes over.
 ghost use Rattle.std.specs.Prelude.{◌≡◌, ◌≤◌, ◌^◌, [], length, find, option_copied, IfOk, IsFalse};
-ghost use Rattle.std.specs.Cmp.Lexicographic.{pointwise};
 ghost use Rattle.std.specs.List.{AllByRecursion};
 ghost use Rattle.gw_tables.specs.bdt_fdt.Kept.{restored};
 ghost use Rattle.gw_tables.specs.bdt_fdt.Peers.{has_twice};
-ghost use Rattle.gw_state.specs.Carried.{entries_from, is_port, manager_tables, no_tables, same_entry, tables_carried, tables_from};
+ghost use Rattle.gw_state.specs.Carried.{are_same, entries_from, is_port, manager_tables, no_tables, same_entry, tables_carried, tables_from};
 
 use crate::{Saved, SavedPort};
 use gw_addr::BdtEntry;
@@ -141,9 +140,9 @@ fn configured(alloc: Global, port: &Port) -> Result<Bdt, AllocError>
     Ok(Bdt::from_vec(peers).unwrap())
 }
 
-/// Whether these are the same entries in the same order.
-fn are_same(a: &[BdtEntry], b: &[BdtEntry]) -> bool
-    ensures { result ≡ pointwise same_entry a.now b.now }
+/// Whether two lists have the same entries of tables of peers, in the same order.
+pub fn are_same(a: &[BdtEntry], b: &[BdtEntry]) -> bool
+    ensures { result ≡ are_same a.now b.now }
 {
     if a.len() != b.len() {
         return false;

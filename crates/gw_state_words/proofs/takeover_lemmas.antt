@@ -1,4 +1,3 @@
-pub mod Networks
 pub mod Firsts
 pub mod PortLaws
 pub mod RouteLaws

@@ -16,9 +16,10 @@ use Rattle.gw_tables.proofs.routes_lemmas.Room.{length-insert_entry}
 use Rattle.gw_tables.specs.declared.routes.route.Route.{Route}
 use Rattle.gw_tables.specs.routes.Table.{Routed, Table, grants, is_fixed, is_learned, learned_by, routes_held, table_of}
 use Rattle.gw_tables.specs.routes.Table.{with_granted, with_learned}
+use Rattle.gw_relay.specs.Initial.{first_table, routed_of}
 use Rattle.gw_state.specs.Carried.{routes_carried}
 use Rattle.gw_state_words.specs.declared.takeover.finding.RouteFate.TheVariants as routes
-use Rattle.gw_state_words.specs.takeover.Findings.{fate_beside, first_table, is_own, is_routed, is_same_route, refusal, routed_of, routes_kept}
+use Rattle.gw_state_words.specs.takeover.Findings.{fate_beside, is_own, is_routed, is_same_route, refusal, routes_kept}
 use Rattle.gw_state_words.specs.takeover.Laws.{FullTablesAreFull}
 
 -- ---- learning

@@ -14,12 +14,12 @@ use Rattle.gw_tables.specs.bdt_fdt.Kept.{restored, row_of}
 use Rattle.gw_tables.specs.bdt_fdt.Registrations.{same as same_address}
 use Rattle.gw_tables.specs.declared.bdt_fdt.tables.PortTables.{PortTables}
 use Rattle.gw_configuration.specs.declared.port.Port.{Port as ConfiguredPort}
-use Rattle.gw_state.specs.Carried.{is_port, manager_tables, no_tables, same_entry, tables_carried, tables_from}
+use Rattle.gw_state.specs.Carried.{are_same, is_port, manager_tables, no_tables, same_entry, tables_carried, tables_from}
 use Rattle.gw_state.specs.declared.port.SavedPort.{SavedPort}
 use Rattle.gw_state_words.proofs.takeover_lemmas.Firsts.{absent, firsts}
 use Rattle.gw_state_words.specs.declared.takeover.finding.TableFate.{TableFate}
 use Rattle.gw_state_words.specs.declared.takeover.finding.TableFate.TheVariants as tables
-use Rattle.gw_state_words.specs.takeover.Findings.{are_same, device_count, devices_of, is_same_port, table_fate}
+use Rattle.gw_state_words.specs.takeover.Findings.{device_count, devices_of, is_same_port, table_fate}
 use Rattle.gw_state_words.specs.takeover.Laws.{DevicesAreCounted, IsTableAsSaid, LostPortsAreLost, PortsAreAsSaid, devices_by}
 
 same_entries : (entries : List BdtEntry) → are_same entries entries ≡ true

@@ -1,24 +1,22 @@
 -- What a gateway of a configuration takes over of a saved state, part by part, and why it doesn't take over the rest.
 use Rattle.std.specs.Prelude.{ℕ, ◌+◌, Bool, ◌&&◌, ◌||◌, not, nat_eq, if◌then◌else◌, List, [], ◌∷◌, ◌++◌, length, map, take, find}
 use Rattle.std.specs.Prelude.{count_by, is_some, Option, Some, None}
-use Rattle.std.specs.Cmp.Lexicographic.{pointwise}
 use Rattle.std.specs.List.{flat_map, list_any, sum_by}
 use Rattle.std.specs.Option.{option_map_or}
 use Rattle.gw_addr.specs.declared.bip.BipAddr.{BipAddr}
-use Rattle.gw_addr.specs.declared.entry.BdtEntry.{BdtEntry}
 use Rattle.gw_tables.specs.bdt_fdt.Registrations.{same as same_address}
 use Rattle.gw_configuration.specs.Configuration.{Configuration}
 use Rattle.gw_configuration.specs.declared.object.Object.{Object as ConfiguredObject}
 use Rattle.gw_configuration.specs.declared.port.Port.{Port as ConfiguredPort}
-use Rattle.gw_configuration.specs.declared.route.Route.{Route as ConfiguredRoute}
 use Rattle.gw_objects.specs.declared.configured.Details.{Details}
 use Rattle.gw_objects.specs.declared.value.PropertyValue.{PropertyValue}
 use Rattle.gw_objects.specs.Objects.{default_of, details_of}
 use Rattle.gw_objects.specs.Objects.{same as same_object}
 use Rattle.gw_objects.specs.Values.{fits, same_value}
 use Rattle.gw_tables.specs.declared.routes.route.Route.{Route}
-use Rattle.gw_tables.specs.routes.Table.{Routed, Table, learned_by, route_by, table_of}
-use Rattle.gw_state.specs.Carried.{is_object, is_port, route_from, routes_carried, same_entry}
+use Rattle.gw_tables.specs.routes.Table.{Routed, learned_by}
+use Rattle.gw_relay.specs.Initial.{first_table}
+use Rattle.gw_state.specs.Carried.{are_same, is_object, is_port, route_from, routes_carried}
 use Rattle.gw_state.specs.declared.port.SavedPort.{SavedPort}
 use Rattle.gw_state.specs.Saved.{Saved, SavedObject, id_of}
 use Rattle.gw_codecs.specs.tags.Object.{Object}
@@ -51,9 +49,6 @@ port_name network address = record { network = network; address = address }
 
 abbrev pub sizes_of : SavedPort → Sizes
 sizes_of s = record { peers = length s.entries; devices = length s.devices }
-
-abbrev pub are_same : List BdtEntry → List BdtEntry → Bool
-are_same a b = pointwise same_entry a b
 
 -- no table was written if the port had the peers that were configured then; and it has the peers that are configured now
 -- if they are those of the table; beside another broadcast manager it has no tables
@@ -111,15 +106,7 @@ devices_kept ports saved = sum_by (λ p. devices_of p (find (is_port p) saved)) 
 
 -- ---- routes
 
--- the table with which a gateway of this configuration begins: the networks of the ports in order and of the device, and
--- the configured routes
-abbrev pub routed_of : ConfiguredRoute → ℕ × Route
-routed_of r = (r.network, route_by r.port r.next)
-
-abbrev pub first_table : Configuration → Table
-first_table c = table_of (map (λ p. p.network) c.ports ++ c.device.network ∷ []) (map routed_of c.routes) []
-
--- its learned routes once it has taken over those of the state
+-- the learned routes of a gateway of this configuration once it has taken over those of the state
 abbrev pub routes_kept : Configuration → Saved → Routed
 routes_kept c s = (learned_by (first_table c) (routes_carried c.ports s)).learned
 

@@ -14,7 +14,8 @@ use Rattle.gw_objects.specs.declared.value.PropertyValue.{PropertyValue}
 use Rattle.gw_objects.specs.Objects.{Slots, default_of}
 use Rattle.gw_tables.specs.declared.routes.route.Route.{Route}
 use Rattle.gw_tables.specs.routes.Table.{learned_by, routes_held}
-use Rattle.gw_state.specs.Carried.{default_from, is_object, is_port, routes_carried, slots_from, states_carried}
+use Rattle.gw_relay.specs.Initial.{first_table}
+use Rattle.gw_state.specs.Carried.{are_same, default_from, is_object, is_port, routes_carried, slots_from, states_carried}
 use Rattle.gw_state.specs.Carried.{tables_carried, tables_from}
 use Rattle.gw_state.specs.declared.port.SavedPort.{SavedPort}
 use Rattle.gw_state.specs.Saved.{Saved, SavedObject, id_of}
@@ -28,7 +29,7 @@ use Rattle.gw_state_words.specs.declared.takeover.finding.TableFate.{TableFate}
 use Rattle.gw_state_words.specs.declared.takeover.finding.TableFate.TheVariants as tables
 use Rattle.gw_state_words.specs.declared.takeover.finding.ValueFate.{ValueFate}
 use Rattle.gw_state_words.specs.declared.takeover.finding.ValueFate.TheVariants as values
-use Rattle.gw_state_words.specs.takeover.Findings.{are_same, default_fate, devices_kept, findings, first_table, is_written}
+use Rattle.gw_state_words.specs.takeover.Findings.{default_fate, devices_kept, findings, is_written}
 use Rattle.gw_state_words.specs.takeover.Findings.{object_absence, object_finding, object_name, port_absence, port_finding}
 use Rattle.gw_state_words.specs.takeover.Findings.{route_fate, routes_kept, sizes_of}
 

@@ -1,13 +1,11 @@
 //! What is found of ports.
 ghost use Rattle.std.specs.Prelude.{◌≡◌, ◌≤◌, ◌++◌, length, option_copied, OnOk};
 ghost use Rattle.gw_addr.specs.declared.TheConstants.{MAX_PORTS};
-ghost use Rattle.gw_state.specs.Carried.{same_entry};
-ghost use Rattle.gw_state_words.specs.takeover.Findings.{are_same, device_count, devices_kept, devices_of, port_finding, port_findings, sizes_of, table_fate};
+ghost use Rattle.gw_state_words.specs.takeover.Findings.{device_count, devices_kept, devices_of, port_finding, port_findings, sizes_of, table_fate};
 
 use crate::takeover::{Finding, PortName, Sizes, TableFate};
-use gw_addr::BdtEntry;
 use gw_configuration::Port;
-use gw_state::{SavedPort, port_saved};
+use gw_state::{SavedPort, are_same, port_saved};
 use std::alloc::AllocError;
 
 /// Adds what is found of the configured ports, in order.
@@ -68,28 +66,6 @@ fn table_fate(port: &Port, saved: &SavedPort) -> TableFate
         return TableFate::AsConfigured;
     }
     TableFate::OtherPeers
-}
-
-/// Whether these are the same entries in the same order.
-fn are_same(a: &[BdtEntry], b: &[BdtEntry]) -> bool
-    ensures { result ≡ are_same a.now b.now }
-{
-    if a.len() != b.len() {
-        return false;
-    }
-    for (place, entry) in a.iter().enumerate() {
-        if !is_same(*entry, b[place]) {
-            return false;
-        }
-    }
-    true
-}
-
-/// Whether two entries are one.
-fn is_same(a: BdtEntry, b: BdtEntry) -> bool
-    ensures { result ≡ same_entry a b }
-{
-    a.address == b.address && a.mask == b.mask
 }
 
 /// How many foreign devices the ports, at most 8, take over.

@@ -1,13 +1,14 @@
 //! What is found of learned routes.
 ghost use Rattle.std.specs.Prelude.{◌≡◌, ◌++◌, find, map, nat_eq, option_copied, IfOk, OnOk};
 ghost use Rattle.std.specs.List.{list_any};
-ghost use Rattle.gw_state_words.specs.takeover.Findings.{fate_beside, finding_of_route, first_table, is_own, is_routed, is_same_route, refusal, route_fate, route_finding, routed_of, routes_kept};
+ghost use Rattle.gw_state_words.specs.takeover.Findings.{fate_beside, finding_of_route, is_own, is_routed, is_same_route, refusal, route_fate, route_finding, routes_kept};
 
 use crate::takeover::{Finding, RouteFate, RouteFinding};
 use gw_addr::NetNum;
 use gw_configuration::{Config, Port, Route as ConfiguredRoute};
+use gw_relay::first_table;
 use gw_state::{Saved, SavedPort, route_from};
-use gw_tables::routes::{Route, Routes};
+use gw_tables::routes::Route;
 use std::alloc::{AllocError, Global};
 
 /// The learned routes that a gateway of this configuration has once it has taken over those of the state.
@@ -22,31 +23,6 @@ pub(crate) fn routes_kept(
     let mut table = first_table(alloc, config)?;
     table.learn_by(&carried)?;
     table.learned(alloc)
-}
-
-/// The networks that a gateway of this configuration reaches itself, and the configured routes.
-fn first_table(alloc: Global, config: &Config) -> Result<Routes, AllocError>
-    ensures { IfOk result (λ table. table ≡ first_table config.now) }
-{
-    let direct = config.own_networks(alloc)?;
-    let configured = routed(alloc, config.routes())?;
-    let table = Routes::new(alloc, direct, configured)?;
-    Ok(table)
-}
-
-/// The configured routes, by their networks.
-fn routed(alloc: Global, routes: &[ConfiguredRoute]) -> Result<Vec<(NetNum, Route)>, AllocError>
-    ensures { IfOk result (λ routed. routed.items ≡ map routed_of routes.now) }
-{
-    let mut routed = Vec::new(alloc);
-    for route in routes {
-        let way = Route {
-            port: route.port,
-            next: route.next,
-        };
-        routed.push((route.network, way))?;
-    }
-    Ok(routed)
 }
 
 /// Adds what is found of the learned routes, in order, if these are kept.

@@ -1,11 +1,9 @@
-use Rattle.std.proofs.Common.{◌∙◌, sym, ap, subst}
+use Rattle.std.proofs.Common.{◌∙◌, sym, subst}
 use Rattle.std.specs.Prelude.{OnOk}
-use Rattle.gw_rules.specs.declared.format.Format.{Format}
 use Rattle.gw_relay.specs.Manage.{answer_steps, manage_response}
 use Rattle.gw_relay.specs.Message.{message_view}
 use Rattle.gw_relay.specs.Response.{Response}
 use Rattle.gw_relay.specs.Turn.{IsWalked}
-use Rattle.gw_relay.specs.internal.Serving.{learn_response}
 use Rattle.gw_relay.proofs.Adding.{on_ok, taken_walked}
 use Rattle.gw_relay.proofs.Learning.{answered_due, learned_due}
 use Rattle.gw_relay.proofs.relay.Relay.manage.Goals as goal
