@@ -21,7 +21,7 @@ pub use law::{script_laws, script_limits};
 pub use line::{MAX_DATAGRAM, parse_line, parse_spelled};
 pub use lines::{LinesFault, translate_lines};
 pub use reader::{LineReader, NextLine};
-pub use sink::{OctetSink, WriteFailed, write_whole};
+pub use sink::{OctetSink, WriteFailed, write_count, write_count_line, write_whole};
 pub use source::{OctetSource, ReadFailed};
 pub use text::{append_end, append_send, append_sends_to};
 pub use translator::LineTranslator;

@@ -67,7 +67,7 @@ pub fn translate_lines<T: LineTranslator, R: OctetSource, W: OctetSink>(
         lines: LineReader::new(),
         text,
     };
-    translating.translate_each(alloc, translator, reader, writer)
+    translating.translate_each(translator, reader, writer)
 }
 
 /// What is kept from line to line.
@@ -81,7 +81,6 @@ impl Translating {
     /// Writes the text for each line, in order.
     fn translate_each<T: LineTranslator, R: OctetSource, W: OctetSink>(
         &mut self,
-        alloc: Global,
         translator: &T,
         reader: &mut R,
         writer: &mut W,
@@ -97,7 +96,7 @@ impl Translating {
         ensures few { R.reads reader.new ≤ R.reads reader.old + 4294967295 }
     {
         for number in 1..u64::MAX {
-            if !self.translate_next(alloc, translator, number, reader, writer)? {
+            if !self.translate_next(translator, number, reader, writer)? {
                 return Ok(());
             }
         }
@@ -107,7 +106,6 @@ impl Translating {
     /// Writes the text for the line of this number. It answers whether there was one.
     fn translate_next<T: LineTranslator, R: OctetSource, W: OctetSink>(
         &mut self,
-        alloc: Global,
         translator: &T,
         number: u64,
         reader: &mut R,
@@ -136,6 +134,7 @@ impl Translating {
             Ok(NextLine::End) => return Ok(false),
             Err(_) => return Err(LinesFault::Read),
         };
+        let alloc = *self.text.allocator();
         let Ok(is_made) = translator.translate(alloc, self.lines.front(len), &mut self.text) else {
             return Err(LinesFault::Memory);
         };

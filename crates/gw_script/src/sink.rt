@@ -1,8 +1,9 @@
 //! What the text of a run is written to.
 
-ghost use Rattle.std.specs.Prelude.{◌≡◌, ◌≤◌, ◌<◌, ◌++◌, ℕ, List, Option, length, IfOk, IsOk, OnOk, OnErr};
+ghost use Rattle.std.specs.Prelude.{◌≡◌, ◌≤◌, ◌<◌, ◌++◌, ℕ, List, Option, codes, decimal, length, IfOk, IsOk, OnOk, OnErr};
 ghost use Rattle.std.specs.Io.KnownBytes.{Appends, WriteAppends};
 
+use itoa::Buffer;
 use std::io::Write;
 
 /// A write failed, or took nothing.
@@ -57,4 +58,28 @@ pub fn write_whole<S: OctetSink>(sink: &mut S, text: &[u8]) -> Result<(), WriteF
         rest = &rest[count..];
     }
     Ok(())
+}
+
+/// Writes a text and the decimal digits of a count. `WriteFailed` only after a failed write.
+pub fn write_count<S: OctetSink>(sink: &mut S, text: &str, count: u128) -> Result<(), WriteFailed>
+    ensures ok { OnOk result (Appends (S.held sink.old) (S.held sink.new) (text.now ++ decimal count)) }
+    ensures sure { S.NeverFails sink.old → IsOk result }
+    ensures lasts { S.NeverFails sink.old → S.NeverFails sink.new }
+{
+    write_whole(sink, text.as_bytes())?;
+    write_whole(sink, Buffer::new().format(count).as_bytes())
+}
+
+/// Writes a line that ends with a count: a text, its decimal digits and a line feed. `WriteFailed` only after a failed write.
+pub fn write_count_line<S: OctetSink>(
+    sink: &mut S,
+    text: &str,
+    count: u128,
+) -> Result<(), WriteFailed>
+    ensures ok { OnOk result (Appends (S.held sink.old) (S.held sink.new) (text.now ++ decimal count ++ codes "\n")) }
+    ensures sure { S.NeverFails sink.old → IsOk result }
+    ensures lasts { S.NeverFails sink.old → S.NeverFails sink.new }
+{
+    write_count(sink, text, count)?;
+    write_whole(sink, b"\n")
 }
