@@ -1,2 +1,3 @@
 pub mod CountingLemmas
 pub mod LineLaw
+pub mod Written

@@ -1,6 +1,6 @@
 //! How many asks of a log each rule of a policy decides.
 //!
-//! [`count_asks`] reads the asks line by line and keeps only the counts; [`put_tally`] writes them, a line for each rule.
+//! [`count_asks`] reads the asks line by line and keeps only the counts; [`write_tally`] writes them, a line for each rule.
 mod counting;
 pub mod laws;
 mod tally;
@@ -8,4 +8,4 @@ mod text;
 
 pub use counting::count_asks;
 pub use tally::Tally;
-pub use text::put_tally;
+pub use text::{put_tally, write_tally};

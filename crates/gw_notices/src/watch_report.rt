@@ -1,15 +1,12 @@
 //! What is reported of what watches a gateway.
 
-ghost use Rattle.std.specs.Prelude.{◌≡◌, ◌++◌, ◌+◌, codes, decimal, length, IsOk, OnOk};
+ghost use Rattle.std.specs.Prelude.{IsOk, OnOk};
 ghost use Rattle.std.specs.Io.KnownBytes.{Appends};
-ghost use Rattle.gw_script.specs.Order.{in_order};
-ghost use Rattle.gw_notices.specs.Watch.{audit_text, beside_text, counts_text, logs_text, trial_text, unseen_text, watch_text};
-ghost use Rattle.gw_decisions.specs.tally.Tally.{line_in, rule_line, tally_text};
+ghost use Rattle.gw_notices.specs.Watch.{audit_text, beside_text, counts_text, logs_text, trial_text, watch_text};
 
-use crate::stats::write_count;
-use gw_decisions::tally::Tally;
-use gw_rules::{Rule, RuleList, quiet_mark};
-use gw_script::{OctetSink, WriteFailed, write_whole};
+use gw_decisions::tally::{Tally, write_tally};
+use gw_rules::RuleList;
+use gw_script::{OctetSink, WriteFailed, write_count, write_count_line};
 
 /// What is counted of a log beside the log.
 #[derive(Clone, Copy)]
@@ -42,9 +39,8 @@ fn write_beside<E: OctetSink>(
     ensures sure { E.NeverFails errors.old → IsOk result }
     ensures lasts { E.NeverFails errors.old → E.NeverFails errors.new }
 {
-    write_count(front, number, errors)?;
-    write_count(" lost=", lost, errors)?;
-    write_whole(errors, b"\n")
+    write_count(errors, front, u128::from(number))?;
+    write_count_line(errors, " lost=", u128::from(lost))
 }
 
 /// Writes what a policy on trial recorded, if there is one.
@@ -71,83 +67,6 @@ fn write_audit<E: OctetSink>(audit: Option<LogCount>, errors: &mut E) -> Result<
     }
 }
 
-/// Writes how many events weren't watched.
-fn write_unseen<E: OctetSink>(unseen: u64, errors: &mut E) -> Result<(), WriteFailed>
-    ensures ok { OnOk result (Appends (E.held errors.old) (E.held errors.new) (unseen_text unseen)) }
-    ensures sure { E.NeverFails errors.old → IsOk result }
-    ensures lasts { E.NeverFails errors.old → E.NeverFails errors.new }
-{
-    write_count("stats unseen=", unseen, errors)?;
-    write_whole(errors, b"\n")
-}
-
-/// Writes how many asks the rule of this number decided.
-fn write_rule<E: OctetSink>(
-    number: u64,
-    rule: &Rule,
-    count: u64,
-    errors: &mut E,
-) -> Result<(), WriteFailed>
-    ensures ok { OnOk result (Appends (E.held errors.old) (E.held errors.new) (rule_line number rule.now count)) }
-    ensures sure { E.NeverFails errors.old → IsOk result }
-    ensures lasts { E.NeverFails errors.old → E.NeverFails errors.new }
-{
-    write_count("rule ", number, errors)?;
-    write_whole(errors, b" ")?;
-    write_whole(errors, rule.name.as_str().as_bytes())?;
-    write_whole(errors, quiet_mark(rule.quiet).as_bytes())?;
-    write_count(": ", count, errors)?;
-    write_whole(errors, b"\n")
-}
-
-/// Writes how many asks each rule decided, in order.
-fn write_rules<E: OctetSink>(
-    rules: &[Rule],
-    counts: &Tally,
-    errors: &mut E,
-) -> Result<(), WriteFailed>
-    requires { length counts.now ≡ length rules.now + 1 }
-    ensures ok { OnOk result (Appends (E.held errors.old) (E.held errors.new) (in_order (line_in counts.now) 1 rules.now)) }
-    ensures sure { E.NeverFails errors.old → IsOk result }
-    ensures lasts { E.NeverFails errors.old → E.NeverFails errors.new }
-{
-    for place in 0..rules.len() {
-        write_rule(
-            place as u64 + 1,
-            &rules[place],
-            counts.count(place + 1),
-            errors,
-        )?;
-    }
-    Ok(())
-}
-
-/// Writes how many asks no rule decided.
-fn write_default<E: OctetSink>(count: u64, errors: &mut E) -> Result<(), WriteFailed>
-    ensures ok { OnOk result (Appends (E.held errors.old) (E.held errors.new)
-        (codes "default: " ++ decimal count ++ codes "\n")) }
-    ensures sure { E.NeverFails errors.old → IsOk result }
-    ensures lasts { E.NeverFails errors.old → E.NeverFails errors.new }
-{
-    write_count("default: ", count, errors)?;
-    write_whole(errors, b"\n")
-}
-
-/// Writes how many asks each rule decided, and how many none did.
-fn write_tally<E: OctetSink>(
-    rules: &[Rule],
-    counts: &Tally,
-    errors: &mut E,
-) -> Result<(), WriteFailed>
-    requires { length counts.now ≡ length rules.now + 1 }
-    ensures ok { OnOk result (Appends (E.held errors.old) (E.held errors.new) (tally_text rules.now counts.now)) }
-    ensures sure { E.NeverFails errors.old → IsOk result }
-    ensures lasts { E.NeverFails errors.old → E.NeverFails errors.new }
-{
-    write_rules(rules, counts, errors)?;
-    write_default(counts.count(0), errors)
-}
-
 /// Writes how many asks each rule decided, and how many none did, if they are counts of these rules. They always are.
 pub fn write_counts<E: OctetSink>(
     rules: &RuleList,
@@ -159,7 +78,7 @@ pub fn write_counts<E: OctetSink>(
     ensures lasts { E.NeverFails errors.old → E.NeverFails errors.new }
 {
     match counts {
-        Some(counts) if counts.is_of(rules) => write_tally(rules.rules(), counts, errors),
+        Some(counts) if counts.is_of(rules) => write_tally(rules, counts, errors),
         _ => Ok(()),
     }
 }
@@ -181,5 +100,5 @@ pub fn write_watched<E: OctetSink>(watched: WatchCounts, errors: &mut E) -> Resu
     ensures lasts { E.NeverFails errors.old → E.NeverFails errors.new }
 {
     write_logs(watched, errors)?;
-    write_unseen(watched.unseen, errors)
+    write_count_line(errors, "stats unseen=", u128::from(watched.unseen))
 }

@@ -1,6 +1,6 @@
 -- The count goes on line by line.
-use Rattle.std.proofs.Common.{◌≡◌, ◌∙◌, ◌≤◌, ◌<◌, ◌+◌, ℕ, suc, List, [], ◌∷◌, ◌++◌, length, rules, Option, Some, None, Result, Ok, Err, true, false, refl, sym, ap, subst, arith, append_assoc}
-use Rattle.std.specs.Prelude.{cond, count_by, slice_index, nat_eq}
+use Rattle.std.proofs.Common.{◌≡◌, ◌∙◌, ◌<◌, ◌+◌, ℕ, List, [], ◌∷◌, ◌++◌, length, rules, Option, Some, None, Result, Ok, Err, true, false, refl, sym, ap, subst, arith, append_assoc}
+use Rattle.std.specs.Prelude.{cond, nat_eq}
 use Rattle.std.proofs.lemmas.List.{append-nil, length-append}
 use Rattle.std.proofs.lemmas.List.Sums.{sum_by-append}
 use Rattle.gw_rules.specs.Ask.{Ask}
@@ -9,7 +9,7 @@ use Rattle.gw_script.specs.Script.{lines_of}
 use Rattle.gw_script.specs.declared.lines.LinesFault.{LinesFault}
 use Rattle.gw_script.specs.declared.lines.LinesFault.TheVariants.{Line, Memory, Read, Write}
 use Rattle.gw_script.proofs.Passing.{Passes, passes_on}
-use Rattle.gw_decisions.specs.tally.Counting.{CountsAll, EndsAtLine, IsCountedIn, IsNext, SayAsks, SaysAsk}
+use Rattle.gw_decisions.specs.tally.Counting.{CountsAll, IsCountedIn, IsNext, SayAsks, SaysAsk}
 use Rattle.gw_decisions.specs.tally.Tally.{AddsOne, IsTally, decided, place}
 
 -- these lines are done, these are the asks that they say and the counts of them, and this text is left

@@ -1,7 +1,6 @@
 -- The line of a rule that isn't quiet.
 use Rattle.std.proofs.Common.{◌≡◌, ℕ, List, [], ◌++◌, ap, rules}
 use Rattle.std.specs.Prelude.{codes, decimal}
-use Rattle.gw_rules.specs.declared.rule.Rule.{Rule}
 use Rattle.gw_decisions.specs.tally.Tally.{PlainLineStays}
 
 nothing_more : (xs : List ℕ) → xs ++ [] ≡ xs

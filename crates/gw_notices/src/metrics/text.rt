@@ -180,6 +180,19 @@ fn put_labelled(
     put_number(number, out)
 }
 
+/// Appends a sample that counts what has a label of this value.
+fn put_counted(
+    family: Family,
+    label: Label,
+    value: &str,
+    number: u64,
+    out: &mut Vec<u8>,
+) -> Result<(), AllocError>
+    ensures { OnOk result (out.new.items ≡ out.old.items ++ full_line (Count family (labelled label value.now number))) }
+{
+    put_labelled(family, label, value.as_bytes(), u128::from(number), out)
+}
+
 /// Appends a family that has one sample.
 fn put_single(family: Family, number: u128, out: &mut Vec<u8>) -> Result<(), AllocError>
     ensures { OnOk result (out.new.items ≡ out.old.items ++ lines_text (family_lines family (single number))) }
@@ -195,30 +208,17 @@ fn put_build(out: &mut Vec<u8>) -> Result<(), AllocError>
     put_labelled(Family::Build, Label::Version, VERSION.as_bytes(), 1, out)
 }
 
-/// Appends a reason for which datagrams weren't passed on.
-fn put_reason(reason: &str, number: u64, out: &mut Vec<u8>) -> Result<(), AllocError>
-    ensures { OnOk result (out.new.items ≡ out.old.items
-        ++ full_line (Count Family.Drops (labelled Label.Reason reason.now number))) }
-{
-    put_labelled(
-        Family::Drops,
-        Label::Reason,
-        reason.as_bytes(),
-        u128::from(number),
-        out,
-    )
-}
-
 fn put_drops(drops: Drops, out: &mut Vec<u8>) -> Result<(), AllocError>
     ensures { OnOk result (out.new.items ≡ out.old.items ++ lines_text (family_lines Family.Drops (Some (drop_samples drops)))) }
 {
-    put_head(Family::Drops, out)?;
-    put_reason("enter", drops.enter, out)?;
-    put_reason("claim", drops.claim, out)?;
-    put_reason("malformed", drops.malformed, out)?;
-    put_reason("own_network", drops.own_network, out)?;
-    put_reason("no_peer", drops.no_peer, out)?;
-    put_reason("memory", drops.memory, out)
+    let (family, label) = (Family::Drops, Label::Reason);
+    put_head(family, out)?;
+    put_counted(family, label, "enter", drops.enter, out)?;
+    put_counted(family, label, "claim", drops.claim, out)?;
+    put_counted(family, label, "malformed", drops.malformed, out)?;
+    put_counted(family, label, "own_network", drops.own_network, out)?;
+    put_counted(family, label, "no_peer", drops.no_peer, out)?;
+    put_counted(family, label, "memory", drops.memory, out)
 }
 
 /// Appends how many asks each rule decided, if they are counted for these rules.
@@ -242,28 +242,14 @@ fn put_decided(rules: &[Rule], counts: &Tally, out: &mut Vec<u8>) -> Result<(), 
         ++ lines_text (family_lines Family.Decisions (Some (decision_samples rules.now counts.now)))) }
 {
     put_head(Family::Decisions, out)?;
-    put_default(counts.count(0), out)?;
-    put_rules(rules, counts, out)
-}
-
-fn put_default(count: u64, out: &mut Vec<u8>) -> Result<(), AllocError>
-    ensures { OnOk result (out.new.items ≡ out.old.items
-        ++ full_line (Count Family.Decisions (labelled Label.Rule (codes "default") count))) }
-{
-    put_decider("default", count, out)
-}
-
-fn put_decider(name: &str, count: u64, out: &mut Vec<u8>) -> Result<(), AllocError>
-    ensures { OnOk result (out.new.items ≡ out.old.items
-        ++ full_line (Count Family.Decisions (labelled Label.Rule name.now count))) }
-{
-    put_labelled(
+    put_counted(
         Family::Decisions,
         Label::Rule,
-        name.as_bytes(),
-        u128::from(count),
+        "default",
+        counts.count(0),
         out,
-    )
+    )?;
+    put_rules(rules, counts, out)
 }
 
 fn put_rules(rules: &[Rule], counts: &Tally, out: &mut Vec<u8>) -> Result<(), AllocError>
@@ -271,22 +257,11 @@ fn put_rules(rules: &[Rule], counts: &Tally, out: &mut Vec<u8>) -> Result<(), Al
     ensures { OnOk result (out.new.items ≡ out.old.items ++ in_order (rule_line counts.now) 1 rules.now) }
 {
     for place in 0..rules.len() {
-        put_rule(&rules[place], counts.count(place + 1), out)?;
+        let name = rules[place].name.as_str();
+        let count = counts.count(place + 1);
+        put_counted(Family::Decisions, Label::Rule, name, count, out)?;
     }
     Ok(())
-}
-
-fn put_rule(rule: &Rule, count: u64, out: &mut Vec<u8>) -> Result<(), AllocError>
-    ensures { OnOk result (out.new.items ≡ out.old.items
-        ++ full_line (Count Family.Decisions (labelled Label.Rule rule.now.name count))) }
-{
-    put_labelled(
-        Family::Decisions,
-        Label::Rule,
-        rule.name.as_str().as_bytes(),
-        u128::from(count),
-        out,
-    )
 }
 
 /// Appends a family that counts by port.
@@ -340,22 +315,10 @@ fn put_reloads(reloads: Reloads, out: &mut Vec<u8>) -> Result<(), AllocError>
     ensures { OnOk result (out.new.items ≡ out.old.items
         ++ lines_text (family_lines Family.Reloads (Some (reload_samples reloads)))) }
 {
-    put_head(Family::Reloads, out)?;
-    put_outcome("taken_over", reloads.taken_over, out)?;
-    put_outcome("refused", reloads.refused, out)
-}
-
-fn put_outcome(outcome: &str, number: u64, out: &mut Vec<u8>) -> Result<(), AllocError>
-    ensures { OnOk result (out.new.items ≡ out.old.items
-        ++ full_line (Count Family.Reloads (labelled Label.Outcome outcome.now number))) }
-{
-    put_labelled(
-        Family::Reloads,
-        Label::Outcome,
-        outcome.as_bytes(),
-        u128::from(number),
-        out,
-    )
+    let (family, label) = (Family::Reloads, Label::Outcome);
+    put_head(family, out)?;
+    put_counted(family, label, "taken_over", reloads.taken_over, out)?;
+    put_counted(family, label, "refused", reloads.refused, out)
 }
 
 /// Appends the digits of a checksum, as the label of a 1.
@@ -402,20 +365,8 @@ fn put_lost_lines(trial: u64, audit: u64, out: &mut Vec<u8>) -> Result<(), Alloc
     ensures { OnOk result (out.new.items ≡ out.old.items
         ++ lines_text (family_lines Family.LostLines (Some (lost_samples trial audit)))) }
 {
-    put_head(Family::LostLines, out)?;
-    put_log("trial", trial, out)?;
-    put_log("audit", audit, out)
-}
-
-fn put_log(log: &str, number: u64, out: &mut Vec<u8>) -> Result<(), AllocError>
-    ensures { OnOk result (out.new.items ≡ out.old.items
-        ++ full_line (Count Family.LostLines (labelled Label.Log log.now number))) }
-{
-    put_labelled(
-        Family::LostLines,
-        Label::Log,
-        log.as_bytes(),
-        u128::from(number),
-        out,
-    )
+    let (family, label) = (Family::LostLines, Label::Log);
+    put_head(family, out)?;
+    put_counted(family, label, "trial", trial, out)?;
+    put_counted(family, label, "audit", audit, out)
 }

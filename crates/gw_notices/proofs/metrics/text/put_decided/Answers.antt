@@ -10,10 +10,10 @@ pub returns : goal.returns
 returns c =
     let counts = c.args.counts.now in
     let head = c.put_head.new.out.items in
-    let first = c.put_default.new.out.items in
+    let first = c.put_counted.new.out.items in
     let inside : 0 < length counts = omega (arith, c.requires) in
     let then : first ≡ head ++ full_line (Count family.Decisions (default_sample counts)) =
-    c.in_ok-put_default.ensures
+    c.in_ok-put_counted.ensures
     ∙ ap (λ (n : ℕ). head ++ full_line (Count family.Decisions (labelled label.Rule (codes "default") n))) (c.count.ensures inside) in
     on_ok_weaker c.put_rules.result
     (decided c.args.rules.now counts c.args.out.now.items head first c.put_rules.new.out.items c.in_ok-put_head.ensures then)

@@ -12,8 +12,8 @@ returns c =
     let head : List Line = Help family.Reloads ∷ KindOf family.Reloads ∷ [] in
     let first = at (codes "taken_over") c.args.reloads.taken_over in
     let before = c.args.out.now.items in
-    on_ok_weaker c.put_outcome-2.result
-    (one_more before c.put_outcome.new.out.items c.put_outcome-2.new.out.items
+    on_ok_weaker c.put_counted-2.result
+    (one_more before c.put_counted.new.out.items c.put_counted-2.new.out.items
     (head ++ first ∷ []) (at (codes "refused") c.args.reloads.refused)
-    (one_more before c.put_head.new.out.items c.put_outcome.new.out.items head first c.in_ok-put_head.ensures c.in_ok-put_outcome.ensures))
-    c.put_outcome-2.ensures
+    (one_more before c.put_head.new.out.items c.put_counted.new.out.items head first c.in_ok-put_head.ensures c.in_ok-put_counted.ensures))
+    c.put_counted-2.ensures

@@ -1,4 +1,4 @@
-use Rattle.std.proofs.Common.{arith, length, rules, ℕ, ◌≡◌, ◌∙◌, ap, get_or, subst, ◌++◌, ◌+◌, ◌<◌, sym}
+use Rattle.std.proofs.Common.{arith, length, rules, ℕ, List, ◌≡◌, ◌∙◌, ap, get_or, subst, ◌++◌, ◌+◌, ◌<◌, sym}
 use Rattle.gw_rules.specs.declared.rule.Rule.{Rule}
 use Rattle.gw_script.proofs.Order.{in_order_end, in_order_none, in_order_step}
 use Rattle.gw_notices.specs.metrics.Text.{Count, full_line, labelled, rule_line}
@@ -16,12 +16,13 @@ loop-place-preserved c =
     let now = c.loop-place.out.items in
     let here : get_or c.args.rules.now c.loop-place.place rule ≡ rule = search rules in
     let inside : c.loop-place.place + 1 < length c.args.counts.now = omega (arith, c.loop-place-test.true, c.requires) in
-    let then : c.put_rule.new.out.items ≡ now ++ text (c.loop-place.place + 1) rule =
-    c.in_ok-put_rule.ensures
+    let then : c.put_counted.new.out.items ≡ now ++ text (c.loop-place.place + 1) rule =
+    c.in_ok-put_counted.ensures
+    ∙ ap (λ (name : List ℕ). now ++ full_line (Count family.Decisions (labelled label.Rule name c.count.result))) c.as_str.ensures.text
     ∙ ap (λ (n : ℕ). now ++ full_line (Count family.Decisions (labelled label.Rule rule.name n))) (c.count.ensures inside) in
-    in_order_step text c.args.out.now.items c.loop-place.out.items c.put_rule.new.out.items c.args.rules.now c.loop-place.place rule
+    in_order_step text c.args.out.now.items c.loop-place.out.items c.put_counted.new.out.items c.args.rules.now c.loop-place.place rule
     c.loop-place-test.true c.loop-place.invariant
-    (subst (λ (r : Rule). c.put_rule.new.out.items ≡ c.loop-place.out.items ++ text (c.loop-place.place + 1) r) (sym here) then)
+    (subst (λ (r : Rule). c.put_counted.new.out.items ≡ c.loop-place.out.items ++ text (c.loop-place.place + 1) r) (sym here) then)
 
 pub returns : goal.returns
 returns c =

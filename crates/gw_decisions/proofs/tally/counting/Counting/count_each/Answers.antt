@@ -1,4 +1,4 @@
-use Rattle.std.proofs.Common.{Bool, List, ℕ, Ok, subst, refl, ◌∙◌}
+use Rattle.std.proofs.Common.{Bool, Ok, subst, refl, ◌∙◌}
 use Rattle.std.specs.Io.KnownBytes.{prepend_known}
 use Rattle.gw_script.proofs.KnownTexts.{nothing_held}
 use Rattle.gw_decisions.specs.tally.Counting.{IsNext}

@@ -1,9 +1,8 @@
-use Rattle.std.proofs.Common.{◌++◌, inr, refl, rules, sym, take, drop, subst, Err, Result, Bool, List, ℕ}
+use Rattle.std.proofs.Common.{◌++◌, inr, refl, sym, take, drop, subst, Err, List, ℕ}
 use Rattle.std.specs.Io.KnownBytes.{prepend_known}
 use Rattle.gw_audit.specs.Entry.{ShowsAsk}
 use Rattle.gw_script.specs.Script.{lines_of}
 use Rattle.gw_script.specs.declared.lines.LinesFault.{LinesFault}
-use Rattle.gw_script.specs.declared.lines.LinesFault.TheVariants.{Read}
 use Rattle.gw_script.proofs.LinesLemmas.{line_found}
 use Rattle.gw_script.proofs.Passing.{passes_on}
 use Rattle.gw_decisions.specs.tally.Counting.{IsNext}
