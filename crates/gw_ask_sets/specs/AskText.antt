@@ -4,6 +4,7 @@ use Rattle.std.specs.Int.{w64, to_be_bytes}
 use Rattle.std.specs.List.{flat_map}
 use Rattle.std.specs.Option.{is_some, option_map_or}
 use Rattle.gw_addr.specs.Address.{address_in, text_of}
+use Rattle.gw_addr.specs.declared.bip.BipAddr.{BipAddr}
 use Rattle.gw_audit.specs.Line.{absent, field_text, key_text, operation_text}
 use Rattle.gw_rules.specs.Ask.{Ask}
 use Rattle.gw_rules.specs.Field.{field_key}
@@ -13,10 +14,14 @@ use Rattle.gw_rules.specs.declared.field.FieldName.TheVariants.{Operation, Sourc
 use Rattle.gw_rules.specs.declared.field.FieldName.TheVariants.{Sender, Station}
 use Rattle.gw_rules.specs.declared.field.TheConstants.FieldName.{ALL}
 
+-- the address of a station of six octets by its key
+abbrev pub address_of : ℕ → BipAddr
+address_of key = address_in (drop 2 (to_be_bytes w64 key))
+
 -- a station by its key: one of six octets as an address, another one by its octets
 abbrev pub station_text : ℕ → List ℕ
 station_text key =
-    if nat_lt key 281474976710656 then text_of (address_in (drop 2 (to_be_bytes w64 key))) else codes "mac:" ++ key_text key
+    if nat_lt key 281474976710656 then text_of (address_of key) else codes "mac:" ++ key_text key
 
 -- what an ask has for a field: an operation by its name, the key of a station as an address, else a number
 abbrev pub value_text : FieldName → Option ℕ → List ℕ

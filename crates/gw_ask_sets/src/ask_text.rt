@@ -2,7 +2,7 @@
 ghost use Rattle.std.specs.Prelude.{◌≡◌, ◌++◌, Some, OnOk};
 ghost use Rattle.std.specs.List.{flat_map};
 ghost use Rattle.gw_audit.specs.Line.{operation_text};
-ghost use Rattle.gw_ask_sets.specs.AskText.{ask_fields_text, is_shown, item_text, station_text, value_text};
+ghost use Rattle.gw_ask_sets.specs.AskText.{address_of, ask_fields_text, is_shown, item_text, station_text, value_text};
 
 use gw_addr::{BipAddr, put_decimal};
 use gw_audit::{KEYS, operation_named, put_key};
@@ -87,6 +87,13 @@ pub fn put_station(out: &mut Vec<u8>, key: u64) -> Result<(), AllocError>
         out.extend_from_slice(b"mac:")?;
         return put_key(out, key);
     }
+    address_of(key).put_text(out)
+}
+
+/// The address of a station of six octets by its key (Annex J.1.2).
+pub fn address_of(key: u64) -> BipAddr
+    ensures { result ≡ address_of key }
+{
     let [_, _, a, b, c, d, high, low] = key.to_be_bytes();
-    BipAddr::from_octets(&[a, b, c, d, high, low]).put_text(out)
+    BipAddr::from_octets(&[a, b, c, d, high, low])
 }

@@ -25,12 +25,12 @@ mod widening;
 
 pub use comparing::{MAX_STEPS, Policies, compare};
 pub use comparison::{Comparison, Found};
-pub use deciders::DEFAULT;
-pub use meeting::ask_in;
+pub use deciders::{DEFAULT, default_rule};
+pub use meeting::{ask_in, ask_of_both};
 pub use merging::merge;
 pub use pairs::{ALL_PAIR_STEPS, PAIR_STEPS, Pair, Pairs, ShownPair, pairs_of};
-pub use ranges::{both, shared, tidy, united, without};
-pub use region::{Region, lies, part};
+pub use ranges::{both, copy, copy_fields, shared, tidy, united, without};
+pub use region::{Region, part};
 pub use summary::{Summary, summarize, summary_of};
 pub use tidying::{all_tidied, tidied};
 pub use unmatched::{Searched, Unmatched, search_counted, search_unmatched};

@@ -10,6 +10,6 @@ mod side;
 pub use cover::{matches_nothing, takes_all, takes_side};
 pub use piece::numbers;
 pub use regions::region_of;
-pub use search::{Outcome, Sought, rule_at, search_for};
-pub use shapes::{Entrance, Origin, aimed, bound, is_manager, only, shapes_of};
+pub use search::{Outcome, Sought, search_for};
+pub use shapes::{Entrance, NETWORK, NOTHING, Origin, aimed, bound, is_manager, only, shapes_of};
 pub use side::{KEY_RANGES, Shape, Side, has_number, meets, overlaps};

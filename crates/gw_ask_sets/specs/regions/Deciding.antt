@@ -1,8 +1,9 @@
 -- What of a policy decides in a region: some of its rules, in order, and what is said where none of them matches.
-use Rattle.std.specs.Prelude.{◌≡◌, ℕ, Bool, true, false, if◌then◌else◌, List, [], ◌∷◌, drop, reverse, slice_get}
+use Rattle.std.specs.Prelude.{◌≡◌, ℕ, Bool, true, false, if◌then◌else◌, List, [], ◌∷◌, codes, drop, reverse, slice_get}
 use Rattle.std.specs.List.{flat_map}
 use Rattle.std.specs.Option.{option_to_list}
 use Rattle.gw_rules.specs.Ask.{Ask}
+use Rattle.gw_rules.specs.Fields.{in_each}
 use Rattle.gw_rules.specs.Rule.{matches}
 use Rattle.gw_rules.specs.RuleList.{allows}
 use Rattle.gw_rules.specs.declared.rule.Rule.{Rule}
@@ -12,6 +13,10 @@ use Rattle.gw_ask_sets.specs.regions.Regions.{Region, lies}
 abbrev pub decided : List Rule → Bool → Ask → Bool
 decided [] otherwise ask = otherwise
 decided (rule ∷ rules) otherwise ask = if matches rule ask then rule.allow else decided rules otherwise ask
+
+-- the default as a rule after all others: what none of them matches is denied
+abbrev pub default_rule : Rule
+default_rule = record { name = codes "default"; allow = false; quiet = false; ranges = in_each [] }
 
 -- the rules at these places
 abbrev pub rules_at : List Rule → List ℕ → List Rule

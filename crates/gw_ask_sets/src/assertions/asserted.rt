@@ -10,11 +10,11 @@ ghost use Rattle.gw_ask_sets.specs.shapes.Regions.{region_of};
 
 use crate::regions::coverage::{Coverage, coverage_of};
 use crate::regions::ranges::without;
-use crate::regions::{Region, part};
+use crate::regions::{Region, default_rule, part};
 use crate::shapes::{Shape, region_of, shapes_of};
 use gw_addr::{BipAddr, Sequence};
 use gw_configuration::{Config, Port, Stations};
-use gw_rules::{Fields, Operation, Range, Ranges, Rule, RuleName};
+use gw_rules::{Operation, Range, Ranges, Rule};
 use std::alloc::{AllocError, Global};
 
 /// How many UDP ports there are.
@@ -25,10 +25,7 @@ fn exactly(alloc: Global, number: u64) -> Result<Ranges, AllocError>
     ensures { IfOk result (λ made. made ≡ exactly number) }
 {
     let mut ranges = Sequence::new(alloc);
-    ranges.push(Range {
-        low: number,
-        high: number,
-    })?;
+    ranges.push(Range::only(number))?;
     Ok(ranges)
 }
 
@@ -36,25 +33,9 @@ fn exactly(alloc: Global, number: u64) -> Result<Ranges, AllocError>
 fn rule_for(alloc: Global, operation: Operation) -> Result<Rule, AllocError>
     ensures { IfOk result (λ rule. rule ≡ rule_for operation) }
 {
-    Ok(Rule {
-        name: RuleName::of_no_rule(),
-        allow: false,
-        quiet: false,
-        ranges: Fields {
-            operation: exactly(alloc, operation.number())?,
-            port: Sequence::new(alloc),
-            source_network: Sequence::new(alloc),
-            source_key: Sequence::new(alloc),
-            destination_network: Sequence::new(alloc),
-            service: Sequence::new(alloc),
-            object_type: Sequence::new(alloc),
-            instance: Sequence::new(alloc),
-            property: Sequence::new(alloc),
-            priority: Sequence::new(alloc),
-            sender: Sequence::new(alloc),
-            station: Sequence::new(alloc),
-        },
-    })
+    let mut rule = default_rule(alloc);
+    rule.ranges.operation = exactly(alloc, operation.number())?;
+    Ok(rule)
 }
 
 /// What is routed to the device's network.
@@ -103,14 +84,7 @@ fn station_keys(alloc: Global, port: &Port) -> Result<Ranges, AllocError>
     ensures { IfOk result (λ keys. keys ≡ station_keys port.now) }
 {
     let keys = subnet_keys(alloc, &port.stations)?;
-    let own = port.address.key48();
-    let reserved = [
-        Range {
-            low: own,
-            high: own,
-        },
-        host_keys(port.broadcast),
-    ];
+    let reserved = [Range::only(port.address.key48()), host_keys(port.broadcast)];
     without(alloc, keys.as_slice(), &reserved)
 }
 

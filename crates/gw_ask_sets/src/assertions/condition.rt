@@ -10,7 +10,7 @@ ghost use Rattle.gw_ask_sets.specs.assertions.internal.Conditions.{is_met, is_on
 ghost use Rattle.gw_ask_sets.specs.regions.Ranges.{between};
 ghost use Rattle.gw_ask_sets.specs.regions.Regions.{lies, lies_in_one};
 
-use crate::regions::ranges::{copy, shared};
+use crate::regions::ranges::{copy_fields, shared};
 use crate::regions::{Region, Values, ask_in};
 use gw_addr::Sequence;
 use gw_configuration::{Assertion, READING_SERVICES, WRITING_SERVICES};
@@ -146,18 +146,6 @@ pub(crate) fn meeting_one(
 
 // ---- those of an assertion
 
-fn copy_of(alloc: Global, ranges: &Fields<Ranges>, field: FieldName) -> Result<Ranges, AllocError>
-    ensures { IfOk result (λ made. made ≡ value_of field ranges.now) }
-{
-    copy(alloc, ranges.get(field).as_slice())
-}
-
-fn copy_ranges(alloc: Global, ranges: &Fields<Ranges>) -> Result<Fields<Ranges>, AllocError>
-    ensures { IfOk result (λ made. made ≡ ranges.now) }
-{
-    Fields::try_from_each(|field| copy_of(alloc, ranges, field))
-}
-
 /// The one range.
 fn one_range(alloc: Global, low: u64, high: u64) -> Result<Ranges, AllocError>
     ensures { IfOk result (λ made. made ≡ between low high ∷ []) }
@@ -173,7 +161,7 @@ fn plain(alloc: Global, assertion: &Assertion) -> Result<Condition, AllocError>
         is_met c ask ≡ each_field (meets assertion.now ask)) }
 {
     Ok(Condition {
-        ranges: copy_ranges(alloc, &assertion.ranges)?,
+        ranges: copy_fields(alloc, &assertion.ranges)?,
         unnamed: assertion.unnamed,
     })
 }
@@ -186,7 +174,7 @@ fn of_operation(
 ) -> Result<Condition, AllocError>
     ensures { IfOk result (λ c. c ≡ operation_condition assertion.now operation) }
 {
-    let mut ranges = copy_ranges(alloc, &assertion.ranges)?;
+    let mut ranges = copy_fields(alloc, &assertion.ranges)?;
     let number = operation.number();
     ranges.operation = one_range(alloc, number, number)?;
     Ok(Condition {
@@ -201,10 +189,7 @@ fn ranges_of_all(alloc: Global, services: &[u64]) -> Result<Ranges, AllocError>
 {
     let mut ranges = Sequence::new(alloc);
     for service in services {
-        ranges.push(Range {
-            low: *service,
-            high: *service,
-        })?;
+        ranges.push(Range::only(*service))?;
     }
     Ok(ranges)
 }
@@ -230,7 +215,7 @@ fn of_services(
 ) -> Result<Condition, AllocError>
     ensures { IfOk result (λ c. c ≡ passing_condition assertion.now services) }
 {
-    let mut ranges = copy_ranges(alloc, &assertion.ranges)?;
+    let mut ranges = copy_fields(alloc, &assertion.ranges)?;
     ranges.operation = one_range(alloc, Operation::Cast.number(), Operation::Route.number())?;
     ranges.service = services;
     ranges.object_type = Sequence::new(alloc);

@@ -42,9 +42,9 @@ fn common_value(a: &Region, b: &Region, field: FieldName) -> Result<Option<u64>,
     Ok(a.get(field).common(b.get(field)))
 }
 
-/// An ask that lies in both regions, or none if there is none.
+/// An ask that lies in both regions, or none if there is none. It takes no memory.
 #[tactic(auto, using(crate::proofs::regions_lemmas::MeetingLaw::common_lies, crate::proofs::regions_lemmas::MeetingLaw::nothing_common))]
-fn ask_of_both(a: &Region, b: &Region) -> Option<Ask>
+pub fn ask_of_both(a: &Region, b: &Region) -> Option<Ask>
     ensures some { IfSome result (λ ask. (lies a.now ask && lies b.now ask) ≡ true) }
     ensures none { result ≡ None → (ask : SpecAsk) → (lies a.now ask && lies b.now ask) ≡ false }
 {

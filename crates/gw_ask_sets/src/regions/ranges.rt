@@ -2,13 +2,14 @@
 ghost use Rattle.std.specs.Prelude.{◌≡◌, ◌++◌, ◌∷◌, true, IfOk, List, OnOk};
 ghost use Rattle.std.specs.List.{flat_map};
 ghost use Rattle.std.specs.Option.{option_to_list};
+ghost use Rattle.gw_rules.specs.Fields.{value_of};
 ghost use Rattle.gw_rules.specs.declared.range.Range.{Range as SpecRange};
 ghost use Rattle.gw_ask_sets.specs.regions.Merging.{AreUnited};
 ghost use Rattle.gw_ask_sets.specs.regions.Ranges.{both, first_number, greater, lesser, outside, over, shared, shared_with, under, without, without_one};
 ghost use Rattle.gw_ask_sets.specs.regions.Tidying.{joined, put_all, put_into, reaches, tidy};
 
 use gw_addr::Sequence;
-use gw_rules::Range;
+use gw_rules::{FieldName, Fields, Range, Ranges};
 use std::alloc::{AllocError, Global};
 
 pub(crate) fn greater(a: u64, b: u64) -> u64
@@ -107,7 +108,8 @@ fn without_one(alloc: Global, xs: &[Range], y: &Range) -> Result<Sequence<Range>
     Ok(out)
 }
 
-pub(crate) fn copy(alloc: Global, xs: &[Range]) -> Result<Sequence<Range>, AllocError>
+/// The same ranges once more. An `Err` if there is no memory.
+pub fn copy(alloc: Global, xs: &[Range]) -> Result<Sequence<Range>, AllocError>
     ensures { IfOk result (λ list. list ≡ xs.now) }
 {
     let mut out = Sequence::new(alloc);
@@ -115,6 +117,19 @@ pub(crate) fn copy(alloc: Global, xs: &[Range]) -> Result<Sequence<Range>, Alloc
         out.push(*x)?;
     }
     Ok(out)
+}
+
+fn copy_of(alloc: Global, fields: &Fields<Ranges>, field: FieldName) -> Result<Ranges, AllocError>
+    ensures { IfOk result (λ made. made ≡ value_of field fields.now) }
+{
+    copy(alloc, fields.get(field).as_slice())
+}
+
+/// The same ranges of each field once more. An `Err` if there is no memory.
+pub fn copy_fields(alloc: Global, fields: &Fields<Ranges>) -> Result<Fields<Ranges>, AllocError>
+    ensures { IfOk result (λ made. made ≡ fields.now) }
+{
+    Fields::try_from_each(|field| copy_of(alloc, fields, field))
 }
 
 /// The numbers of the list outside all of these ranges. An `Err` if there is no memory.

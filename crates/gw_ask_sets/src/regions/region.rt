@@ -1,29 +1,19 @@
 //! Regions of asks, and how a rule parts one.
 ghost use Rattle.std.specs.Prelude.{◌≡◌, ◌&&◌, ◌++◌, List, IfOk, OnOk};
-ghost use Rattle.std.specs.List.{list_any};
 ghost use Rattle.gw_rules.specs.Fields.{value_of, with_value};
 ghost use Rattle.gw_rules.specs.Ask.{Ask as SpecAsk};
-ghost use Rattle.gw_rules.specs.Rule.{each_field, matches};
+ghost use Rattle.gw_rules.specs.Rule.{matches};
 ghost use Rattle.gw_rules.specs.declared.field.TheConstants.FieldName.{ALL};
 ghost use Rattle.gw_ask_sets.specs.regions.Regions.{IsParted, inside, inside_at, lies, piece, piece_at, pieces};
 ghost use Rattle.gw_ask_sets.specs.regions.Regions.{Region as SpecRegion};
 
 use crate::regions::Values;
 use crate::regions::tidying::tidied;
-use gw_rules::{Ask, FieldName, Fields, Rule};
+use gw_rules::{FieldName, Fields, Rule};
 use std::alloc::{AllocError, Global};
 
 /// A set of values for each of the twelve fields: an ask lies in it if each field is one of its values.
 pub type Region = Fields<Values>;
-
-/// Whether an ask lies in a region.
-pub fn lies(region: &Region, ask: &Ask) -> bool
-    ensures { result ≡ lies region.now ask.now }
-{
-    FieldName::ALL
-        .iter()
-        .all(|field| region.get(*field).has(*ask.get(*field)))
-}
 
 pub(crate) fn copy_region(alloc: Global, region: &Region) -> Result<Region, AllocError>
     ensures { IfOk result (λ copied. copied ≡ region.now) }

@@ -146,9 +146,9 @@ impl Values {
         self.absent == other.absent && same_ranges(self.ranges.as_slice(), other.ranges.as_slice())
     }
 
-    /// Those of both.
+    /// Those of one or the other. An `Err` if there is no memory.
     #[tactic(auto, using(crate::proofs::regions_lemmas::ValueLaw::united_values))]
-    pub(crate) fn united(&self, alloc: Global, other: &Values) -> Result<Self, AllocError>
+    pub fn united(&self, alloc: Global, other: &Values) -> Result<Self, AllocError>
         ensures { IfOk result (λ all. (value : Option ℕ) →
             has all value ≡ (has self.now value || has other.now value)) }
     {

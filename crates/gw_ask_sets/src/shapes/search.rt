@@ -1,6 +1,5 @@
 //! Whether any ask of some shapes reaches a rule.
-ghost use Rattle.std.specs.Prelude.{◌≡◌, ◌-◌, ◌≤◌, ◌&&◌, ◌||◌, IfOk, OnOk};
-ghost use Rattle.std.specs.Prelude.{option_copied, slice_get};
+ghost use Rattle.std.specs.Prelude.{◌≡◌, ◌≤◌, ◌&&◌, ◌||◌, IfOk, OnOk};
 ghost use Rattle.gw_ask_sets.specs.regions.Regions.{lies, lies_in_one};
 ghost use Rattle.gw_rules.specs.Ask.{Ask as SpecAsk};
 ghost use Rattle.gw_rules.specs.Rule.{matches};
@@ -11,7 +10,7 @@ use crate::regions::{Region, Unmatched, part, search_counted};
 use crate::shapes::Shape;
 use crate::shapes::regions::region_of;
 use crate::shapes::side::meets;
-use gw_rules::{Ask, Rule, RuleList};
+use gw_rules::{Ask, Rule};
 use std::alloc::{AllocError, Global};
 
 /// The result of a search for an ask that a rule decides.
@@ -30,13 +29,6 @@ pub enum Outcome {
 pub struct Sought {
     pub outcome: Outcome,
     pub steps: u32,
-}
-
-/// The rule of a number, counted from 1.
-pub fn rule_at(rules: &RuleList, number: u16) -> Option<&Rule>
-    ensures { option_copied result ≡ slice_get rules.now (number - 1) }
-{
-    rules.rules().get(usize::from(number).saturating_sub(1))
 }
 
 /// Puts the asks of a shape that the rule matches after the regions, as one more.

@@ -42,7 +42,7 @@ pub struct Entrance {
 }
 
 /// An absent field.
-const NOTHING: Side = Side {
+pub const NOTHING: Side = Side {
     absent: true,
     range: NO_RANGE,
     keyed: false,
@@ -69,7 +69,7 @@ const ANY_KEY: Side = Side {
 };
 
 /// A network (clause 6).
-const NETWORK: Side = Side {
+pub const NETWORK: Side = Side {
     absent: false,
     range: Range {
         low: 1,
