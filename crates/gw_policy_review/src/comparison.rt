@@ -18,7 +18,7 @@ pub(crate) mod words;
 
 pub use asks::asks_of;
 pub use comparing::{Comparing, put_steps};
-pub use comparison::{Compared, Printing, Results, compared_by, judged_by, put_comparison};
+pub use comparison::{Compared, Printing, Results, compared_by, judged_by};
 pub use details::put_details;
 pub use groups::MOST_UNGROUPED;
 pub use parts::{Part, PortPart, differing_parts, put_part_names};

@@ -3,6 +3,7 @@
 
 pub mod comparison;
 pub mod lint;
+mod numbered;
 pub mod permissions;
 pub mod places;
 pub mod warnings;

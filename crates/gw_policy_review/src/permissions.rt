@@ -12,7 +12,7 @@ mod questions;
 mod reach;
 mod words;
 
-pub use passing::{decides_all, may_allow, may_pass, place_of_all, search_decided};
-pub(crate) use passing::{Passage, is_never, search_allowed};
+pub use passing::search_decided;
+pub(crate) use passing::{Passage, allows_at, is_never, search_allowed};
 pub use permissions::put_permissions;
 pub(crate) use words::Placed;

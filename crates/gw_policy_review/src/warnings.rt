@@ -16,5 +16,6 @@ mod warnings;
 
 pub use oversights::put_oversights;
 pub(crate) use rule_oversights::{admits_number, holds_number, passes_to, share};
-pub(crate) use station_oversights::{is_near, is_station};
+pub(crate) use station_oversights::is_near;
+pub use station_oversights::is_station;
 pub use warnings::put_warnings;

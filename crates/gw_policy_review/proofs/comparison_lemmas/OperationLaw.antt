@@ -1,23 +1,20 @@
 -- The operations of the asks of the shapes that lie in a region, and the region with these alone.
-use Rattle.std.proofs.Common.{◌≡◌, ◌∙◌, sym, ap, refl, subst, ℕ, ◌+◌, ◌<◌, zero, suc, add-one, arith, get_or, length, take, Bool, true, false, ◌&&◌, ◌||◌, List, [], ◌∷◌, ◌++◌, Option, Some, None, inl, inr}
-use Rattle.std.specs.List.{AllByRecursion, list_all}
-use Rattle.std.proofs.Math.Seq.{take-suc}
+use Rattle.std.proofs.Common.{◌≡◌, ◌∙◌, sym, ap, refl, subst, ℕ, Bool, true, false, ◌&&◌, ◌||◌, List, [], ◌∷◌, ◌++◌, Option, Some, None, inl, inr}
+use Rattle.std.specs.List.{AllByRecursion}
 use Rattle.std.proofs.lemmas.Bool.{and_from, and_parts, both_ways, or_cases, or_left, or_right}
-use Rattle.std.proofs.lemmas.List.Folds.{list_all-append, list_any-append}
+use Rattle.std.proofs.lemmas.List.Folds.{list_any-append}
 use Rattle.gw_rules.specs.Ask.{Ask}
 use Rattle.gw_rules.specs.Fields.{value_of, with_value}
 use Rattle.gw_rules.specs.declared.field.FieldName.{FieldName}
 use Rattle.gw_rules.specs.declared.field.FieldName.TheVariants.{DestinationNetwork, Instance, ObjectType, Operation, Port, Priority}
 use Rattle.gw_rules.specs.declared.field.FieldName.TheVariants.{Property, Sender, Service, SourceKey, SourceNetwork, Station}
 use Rattle.gw_rules.proofs.EachField.{each_field_at}
-use Rattle.gw_ask_sets.specs.regions.Meeting.{AreCommon, have_common}
 use Rattle.gw_ask_sets.specs.regions.Merging.{IsWide, lies_but}
 use Rattle.gw_ask_sets.specs.regions.Presence.{IsLacking, IsMeantBy, NoneIsMeant}
 use Rattle.gw_ask_sets.specs.regions.Regions.{Region, lies, lies_in_one}
-use Rattle.gw_ask_sets.specs.regions.Values.{common, has}
+use Rattle.gw_ask_sets.specs.regions.Values.{has}
 use Rattle.gw_ask_sets.specs.declared.regions.values.Values.{Values}
-use Rattle.gw_ask_sets.proofs.regions_lemmas.MeetingLaw.{common_lies, nothing_common}
-use Rattle.gw_ask_sets.proofs.regions_lemmas.RangeLaw.{and_none, or_none, same, shared_law}
+use Rattle.gw_ask_sets.proofs.regions_lemmas.RangeLaw.{or_none, same, shared_law}
 use Rattle.gw_ask_sets.proofs.regions_lemmas.RegionLaw.{lies_apart, lies_with}
 use Rattle.gw_policy_review.specs.comparison.Operations.{AreAsked, IsAsking, OperationIsMeant, is_open, values_of_both}
 
@@ -59,42 +56,6 @@ asked_of_both region shape ask operations there is =
           };
     })
 
--- in each field a value of both
-abbrev ask_of : Region → Region → Ask
-ask_of a b = record {
-  operation = common a.operation b.operation;
-  port = common a.port b.port;
-  source_network = common a.source_network b.source_network;
-  source_key = common a.source_key b.source_key;
-  destination_network = common a.destination_network b.destination_network;
-  service = common a.service b.service;
-  object_type = common a.object_type b.object_type;
-  instance = common a.instance b.instance;
-  property = common a.property b.property;
-  priority = common a.priority b.priority;
-  sender = common a.sender b.sender;
-  station = common a.station b.station;
-}
-
-of_both : (a b : Region) → AreCommon a b (ask_of a b)
-of_both a b Operation = refl
-of_both a b Port = refl
-of_both a b SourceNetwork = refl
-of_both a b SourceKey = refl
-of_both a b DestinationNetwork = refl
-of_both a b Service = refl
-of_both a b ObjectType = refl
-of_both a b Instance = refl
-of_both a b Property = refl
-of_both a b Priority = refl
-of_both a b Sender = refl
-of_both a b Station = refl
-
-pub asked_of_common : (region shape : Region) (operations : Values) → have_common region shape ≡ true
-    → operations ≡ values_of_both region.operation shape.operation → AreAsked (shape ∷ []) region operations
-asked_of_common region shape operations met is =
-    asked_of_both region shape (ask_of region shape) operations (common_lies region shape (ask_of region shape) (of_both region shape) met) is
-
 pub nothing_asked : (shapes : List Region) (region : Region) (operations : Values) → operations ≡ record { absent = false; ranges = [] }
     → ((ask : Ask) → (lies region ask && lies_in_one shapes ask) ≡ false) → AreAsked shapes region operations
 nothing_asked shapes region operations is none =
@@ -107,11 +68,11 @@ nothing_asked shapes region operations is none =
     empty None = refl
     empty (Some n) = refl
 
-pub nothing_of_both : (region shape : Region) (operations : Values) → have_common region shape ≡ false
+pub nothing_of_both : (region shape : Region) (operations : Values) → ((ask : Ask) → (lies region ask && lies shape ask) ≡ false)
     → operations ≡ record { absent = false; ranges = [] } → AreAsked (shape ∷ []) region operations
 nothing_of_both region shape operations apart is =
     nothing_asked (shape ∷ []) region operations is
-    (λ ask. ap (λ b. lies region ask && b) (or_none (lies shape ask)) ∙ nothing_common region shape ask apart)
+    (λ ask. ap (λ b. lies region ask && b) (or_none (lies shape ask)) ∙ apart ask)
 
 pub nothing_of_none : (region : Region) (operations : Values) → operations ≡ record { absent = false; ranges = [] } → AreAsked [] region operations
 nothing_of_none region operations is = nothing_asked [] region operations is (λ ask. none (lies region ask))
@@ -223,22 +184,6 @@ open_wide shapes region ask in_shape = refl
 
 pub open_meant : (shapes : List Region) (region : Region) → is_open region ≡ true → OperationIsMeant shapes region
 open_meant shapes region is shut = absurd (both_ways (is_open region) shut is)
-
--- ---- fields one after the other
-
-pub all_grown : {A : Type 0} (test : A → Bool) (items : List A) (place : ℕ) (d : A) → place < length items → list_all test (take place items) ≡ true
-    → test (get_or items place d) ≡ true → list_all test (take (place + 1) items) ≡ true
-all_grown test items place d within before now =
-    ap (list_all test) (ap (λ n. take n items) (add-one place) ∙ take-suc items place d within)
-    ∙ list_all-append test (take place items) (get_or items place d ∷ [])
-    ∙ and_from (list_all test (take place items)) (list_all test (get_or items place d ∷ [])) before
-    (and_from (test (get_or items place d)) true now refl)
-
-pub all_broken : {A : Type 0} (test : A → Bool) (items : List A) (place : ℕ) (d : A) → place < length items → test (get_or items place d) ≡ false
-    → list_all test items ≡ false
-all_broken test [] place d within e = absurd (omega arith)
-all_broken test (x ∷ xs) zero d within e = ap (λ b. b && list_all test xs) e
-all_broken test (x ∷ xs) (suc k) d within e = ap (λ b. test x && b) (all_broken test xs k d (omega arith) e) ∙ and_none (test x)
 
 -- ---- all regions
 

@@ -11,7 +11,7 @@ use Rattle.gw_rules.specs.RuleList.{HasNumber, allows, allows_at, first}
 use Rattle.gw_rules.specs.declared.rule.Rule.{Rule}
 use Rattle.gw_rules.proofs.First.{first_iff}
 use Rattle.gw_rules.proofs.Matching.{matches_iff}
-use Rattle.gw_ask_sets.specs.regions.Deciding.{decided}
+use Rattle.gw_ask_sets.specs.regions.Deciding.{decided, default_rule}
 use Rattle.gw_ask_sets.specs.regions.Ranges.{lesser}
 use Rattle.gw_ask_sets.specs.regions.Tidying.{all_tidied, tidied}
 use Rattle.gw_ask_sets.specs.shapes.Search.{IsFound, IsSought}
@@ -22,7 +22,7 @@ use Rattle.gw_ask_sets.proofs.shapes_lemmas.Narrowing.{no_rule}
 use Rattle.gw_ask_sets.proofs.shapes_lemmas.Seeking.{is_found}
 use Rattle.gw_policy_review.specs.lint.Finding.{steps_given}
 use Rattle.gw_policy_review.specs.permissions.Laws.{OnlyUsedUpIsUnknown}
-use Rattle.gw_policy_review.specs.permissions.Passing.{AreVain, IsDecision, IsPassage, IsSaidBy, IsSoughtIf, default_rule, is_never, is_said, searched_rules}
+use Rattle.gw_policy_review.specs.permissions.Passing.{AreVain, IsDecision, IsPassage, IsSaidBy, IsSoughtIf, is_never, is_said, searched_rules}
 use Rattle.gw_policy_review.proofs.permissions_lemmas.Excepting.{some_first}
 use Rattle.gw_ask_sets.specs.declared.shapes.search.Outcome.{Outcome}
 use Rattle.gw_ask_sets.specs.declared.shapes.search.Outcome.TheVariants as outcome

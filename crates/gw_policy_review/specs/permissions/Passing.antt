@@ -1,13 +1,14 @@
 -- Which rules may allow asks of a shape.
-use Rattle.std.specs.Prelude.{◌≡◌, ⊤, ℕ, zero, suc, ◌+◌, ◌-◌, ◌≤◌, Bool, true, false, not, ◌&&◌, if◌then◌else◌, List, [], ◌∷◌, ◌++◌, codes, length}
+use Rattle.std.specs.Prelude.{◌≡◌, ⊤, ℕ, zero, suc, ◌+◌, ◌-◌, ◌≤◌, Bool, true, false, not, ◌&&◌, if◌then◌else◌, List, [], ◌∷◌, ◌++◌, length}
 use Rattle.std.specs.Prelude.{position, slice_get, take, unwrap_or}
 use Rattle.std.specs.List.{list_any}
 use Rattle.std.specs.Option.{option_map_or}
 use Rattle.gw_rules.specs.Ask.{Ask}
-use Rattle.gw_rules.specs.Fields.{in_each, value_of}
+use Rattle.gw_rules.specs.Fields.{value_of}
 use Rattle.gw_rules.specs.Rule.{each_field, ranges_of}
 use Rattle.gw_rules.specs.RuleList.{allows, allows_at}
 use Rattle.gw_rules.specs.declared.rule.Rule.{Rule}
+use Rattle.gw_ask_sets.specs.regions.Deciding.{default_rule}
 use Rattle.gw_ask_sets.specs.regions.Tidying.{all_tidied}
 use Rattle.gw_ask_sets.specs.shapes.Cover.{takes_side}
 use Rattle.gw_ask_sets.specs.shapes.Meeting.{meets}
@@ -51,10 +52,6 @@ abbrev pub lets : Rule → Finding → Bool
 lets rule (finding.Decides ask) = rule.allow
 lets rule finding.Unknown = rule.allow
 lets rule _ = false
-
--- the rule behind all others: what none of them matches is denied
-abbrev pub default_rule : Rule
-default_rule = record { name = codes "default"; allow = false; quiet = false; ranges = in_each [] }
 
 -- the rules as they are searched: their ranges are in order, so that they match the same asks, and the default is behind them
 abbrev pub searched_rules : List Rule → List Rule

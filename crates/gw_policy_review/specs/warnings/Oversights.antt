@@ -24,12 +24,12 @@ use Rattle.gw_rules.specs.declared.operation.Operation.{Operation}
 use Rattle.gw_rules.specs.declared.operation.Operation.TheVariants as operations
 use Rattle.gw_rules.specs.declared.range.Range.{Range}
 use Rattle.gw_rules.specs.declared.rule.Rule.{Rule}
+use Rattle.gw_ask_sets.specs.AskText.{address_of}
 use Rattle.gw_ask_sets.specs.shapes.Meeting.{overlaps}
 use Rattle.gw_script.specs.Order.{in_order}
 use Rattle.gw_policy_review.specs.Places.{is_derived}
 use Rattle.gw_policy_review.specs.permissions.Words.{rule_words}
 use Rattle.gw_policy_review.specs.warnings.Subnet.{is_beside}
-use Rattle.gw_policy_review.specs.warnings.Warnings.{address_of}
 
 -- ---- the stations of a port
 

@@ -1,13 +1,13 @@
 -- What a configuration has that is accepted and can't be meant, and the lines that say it.
 use Rattle.std.specs.Prelude.{ℕ, ◌+◌, ◌-◌, ◌==◌, Bool, true, false, ◌&&◌, ◌||◌, not, nat_le, nat_lt, if◌then◌else◌, List, [], ◌∷◌, ◌++◌}
-use Rattle.std.specs.Prelude.{length, drop, codes, decimal, Option, Some, None, position, slice_get}
-use Rattle.std.specs.Int.{w64, to_be_bytes}
+use Rattle.std.specs.Prelude.{length, codes, decimal, Option, Some, None, position, slice_get}
 use Rattle.std.specs.Option.{option_map_or}
-use Rattle.gw_addr.specs.Address.{address_in, text_of}
+use Rattle.gw_addr.specs.Address.{text_of}
 use Rattle.gw_script.specs.Order.{in_order}
 use Rattle.gw_addr.specs.Text.{four_text}
 use Rattle.gw_addr.specs.declared.bip.BipAddr.{BipAddr}
 use Rattle.gw_addr.specs.declared.entry.BdtEntry.{BdtEntry}
+use Rattle.gw_ask_sets.specs.AskText.{address_of}
 use Rattle.gw_configuration.specs.Configuration.{Configuration}
 use Rattle.gw_configuration.specs.Duplicates.{key}
 use Rattle.gw_configuration.specs.Located.{numbered}
@@ -175,10 +175,6 @@ abbrev pub set_lines : ℕ → Set → List ℕ
 set_lines index set = if set.used then [] else set_line index set.name
 
 -- ---- rules
-
--- the address of a key of 48 bits
-abbrev pub address_of : ℕ → BipAddr
-address_of number = address_in (drop 2 (to_be_bytes w64 number))
 
 -- Between two addresses of one UDP port lie all ports of the addresses between theirs, and of theirs only some.
 abbrev pub is_cut : BipAddr → BipAddr → Bool

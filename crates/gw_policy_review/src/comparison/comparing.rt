@@ -159,9 +159,27 @@ impl<'a> Comparing<'a> {
         self.comparison.found.len()
     }
 
-    /// Appends what is found so far as [`put_comparison`](crate::comparison::put_comparison) does, with at most so many lines of
-    /// each group; the last line says whether the comparison is finished. An `Err` if there is no memory: the buffer
-    /// then holds what it held.
+    /// Appends in which parts the two differ, and what is found so far that they decide otherwise, over all asks that a gateway of
+    /// either may raise: lines for each part that isn't the same; a line for each kind of asks, what is newly allowed first, at
+    /// most so many lines of each group; and a last line that says whether these are all. Each rule is named, with the place of its
+    /// table in its own text if that has another number than the rule.
+    ///
+    /// ```text
+    /// port 1: 10.9.0.0/24 is a station now
+    /// rule panel is new
+    /// now allowed: write, type 5 binary-value, instance 1, property 85 present-value, priority 1..7, from network 2, by panel (was denied by no-writes)
+    /// now denied: list, from network 1, by quiet (table 3, line 41) (was allowed by find)
+    /// 2 kinds of asks are decided otherwise, and no other
+    /// ```
+    ///
+    /// Where the steps don't find all kinds, pairs of rules are named:
+    ///
+    /// ```text
+    /// now allowed by panel (was denied by no-writes), for one: operation=write port=1 source_network=2 ..
+    /// pairs of rules that decide asks otherwise: 1, and no other
+    /// ```
+    ///
+    /// An `Err` if there is no memory: the buffer then holds what it held.
     pub fn put(
         self,
         alloc: Global,

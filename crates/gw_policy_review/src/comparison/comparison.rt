@@ -2,7 +2,7 @@
 ghost use Rattle.std.specs.Prelude.{◌≡◌, true, ◌++◌, ◌∷◌, ◌==◌, [], codes, decimal, if◌then◌else◌, length, IfOk, List, OnErr, OnOk};
 ghost use Rattle.std.specs.List.Sorted.{IsNonDecreasingBy, IsPermutation};
 ghost use Rattle.gw_policy_review.specs.comparison.Asks.{asks_of};
-ghost use Rattle.gw_policy_review.specs.comparison.Comparison.{AppendsComparison, AreResults, IsComparisonText, asks_text, by_both_text, by_pairs_text, by_regions_text, compared_by, ending_text, judged_by, kinds_text, manner_of, paired_by, rank};
+ghost use Rattle.gw_policy_review.specs.comparison.Comparison.{AreResults, IsComparisonText, asks_text, by_both_text, by_pairs_text, by_regions_text, compared_by, ending_text, judged_by, kinds_text, manner_of, paired_by, rank};
 ghost use Rattle.gw_ask_sets.specs.regions.Comparing.{IsComparison, IsSummary};
 ghost use Rattle.gw_ask_sets.specs.regions.Presence.{OrNoneIsMeant};
 ghost use Rattle.gw_ask_sets.specs.regions.Pairs.{findings};
@@ -11,7 +11,6 @@ ghost use Rattle.gw_policy_review.specs.comparison.PairLines.{known_of};
 ghost use Rattle.gw_policy_review.specs.comparison.PartLines.{details};
 ghost use Rattle.gw_rules.specs.declared.rule.Rule.{Rule as SpecRule};
 
-use crate::comparison::Comparing;
 use crate::comparison::details::put_details;
 use crate::comparison::groups::{Listing, put_regions};
 use crate::comparison::naming::Names;
@@ -19,7 +18,7 @@ use crate::comparison::operations::narrow_all;
 use crate::comparison::pairs::{put_given_up, put_pairs};
 use crate::comparison::parts::{Part, differing_parts};
 use gw_addr::{keep_whole, put_decimal, put_slice};
-use gw_ask_sets::regions::{Comparison, Found, MAX_STEPS, Pairs, Region, ShownPair, Summary};
+use gw_ask_sets::regions::{Comparison, Found, Pairs, Region, ShownPair, Summary};
 use gw_configuration::Config;
 use std::alloc::{AllocError, Global};
 
@@ -68,43 +67,6 @@ impl Drop for ComparisonText {
     fn drop(self) {
         let ComparisonText { text: _, made: _ } = self;
     }
-}
-
-/// Appends in which parts two configurations differ, and what they decide otherwise, over all asks that a gateway of
-/// either may raise: lines for each part that isn't the same; a line for each kind of asks, what is newly allowed first,
-/// at most so many lines; and a last line that says whether these are all. Each rule is named, with the place of its table in its
-/// own text if that has another number than the rule.
-///
-/// ```text
-/// port 1: 10.9.0.0/24 is a station now
-/// rule panel is new
-/// now allowed: write, type 5 binary-value, instance 1, property 85 present-value, priority 1..7, from network 2, by panel (was denied by no-writes)
-/// now denied: list, from network 1, by quiet (table 3, line 41) (was allowed by find)
-/// 2 kinds of asks are decided otherwise, and no other
-/// ```
-///
-/// Where the steps don't find all kinds, pairs of rules are named:
-///
-/// ```text
-/// now allowed by panel (was denied by no-writes), for one: operation=write port=1 source_network=2 ..
-/// pairs of rules that decide asks otherwise: 1, and no other
-/// ```
-///
-/// An `Err` if there is no memory: the buffer then holds what it held.
-pub fn put_comparison(
-    alloc: Global,
-    old: &Config,
-    new: &Config,
-    how: Printing<'_>,
-    out: &mut Vec<u8>,
-) -> Result<Compared, AllocError>
-    ensures ok { IfOk result (λ made.
-        AppendsComparison old.now new.now (manner_of how.entry) made out.old.items out.new.items) }
-    ensures err { OnErr result (out.new.items ≡ out.old.items) }
-{
-    let mut comparing = Comparing::new(alloc, old, new)?;
-    comparing.go_on(alloc, MAX_STEPS)?;
-    comparing.put(alloc, how, out)
 }
 
 /// Appends a text, or nothing.

@@ -1,20 +1,17 @@
 //! The operations that the asks of a region have.
-ghost use Rattle.std.specs.Prelude.{◌≡◌, ◌||◌, ◌∷◌, [], ℕ, false, Option, IfOk, List, OnOk};
+ghost use Rattle.std.specs.Prelude.{◌≡◌, ◌∷◌, [], false, IfOk, List, OnOk};
 ghost use Rattle.std.specs.List.{list_all};
 ghost use Rattle.gw_ask_sets.specs.regions.Comparing.{IsSummary};
-ghost use Rattle.gw_ask_sets.specs.regions.Meeting.{have_common};
 ghost use Rattle.gw_ask_sets.specs.regions.Merging.{IsWide};
 ghost use Rattle.gw_ask_sets.specs.regions.Presence.{NoneIsMeant, OrNoneIsMeant};
 ghost use Rattle.gw_ask_sets.specs.regions.Regions.{Region as SpecRegion};
-ghost use Rattle.gw_ask_sets.specs.regions.Ranges.{first_number};
-ghost use Rattle.gw_ask_sets.specs.regions.Values.{has, shares};
 ghost use Rattle.gw_rules.specs.Fields.{value_of};
 ghost use Rattle.gw_rules.specs.declared.rule.Rule.{Rule as SpecRule};
 ghost use Rattle.gw_policy_review.specs.comparison.Operations.{AreAsked, OperationIsMeant, OperationsAreMeant, is_open, values_of_both};
 
 use gw_addr::Sequence;
-use gw_ask_sets::regions::{Found, Region, Values, shared, united};
-use gw_rules::{FieldName, Range};
+use gw_ask_sets::regions::{Found, Region, Values, ask_of_both, shared};
+use gw_rules::FieldName;
 use std::alloc::{AllocError, Global};
 
 /// The fields that say what an ask is for, beside its operation.
@@ -51,51 +48,13 @@ fn values_of_both(alloc: Global, a: &Values, b: &Values) -> Result<Values, Alloc
     })
 }
 
-fn first_number(ranges: &[Range]) -> Option<u64>
-    ensures { result ≡ first_number ranges.now }
-{
-    match ranges.split_first() {
-        Some((first, _)) => Some(first.low),
-        None => None,
-    }
-}
-
-/// Whether both have a value.
-fn shares(alloc: Global, a: &Values, b: &Values) -> Result<bool, AllocError>
-    ensures { IfOk result (λ yes. yes ≡ shares a.now b.now) }
-{
-    let both = shared(alloc, a.ranges.as_slice(), b.ranges.as_slice())?;
-    let value = first_number(both.as_slice());
-    Ok(a.has(value) && b.has(value))
-}
-
-/// Whether both regions have a value in a field.
-fn share(alloc: Global, a: &Region, b: &Region, field: FieldName) -> Result<bool, AllocError>
-    ensures { IfOk result (λ yes. yes ≡ shares (value_of field a.now) (value_of field b.now)) }
-{
-    shares(alloc, a.get(field), b.get(field))
-}
-
-/// Whether both regions have a value in each field: then an ask lies in both.
-fn have_common(alloc: Global, a: &Region, b: &Region) -> Result<bool, AllocError>
-    ensures { IfOk result (λ yes. yes ≡ have_common a.now b.now) }
-{
-    for field in FieldName::ALL.iter() {
-        if !share(alloc, a, b, *field)? {
-            return Ok(false);
-        }
-    }
-    Ok(true)
-}
-
 /// The operations of the asks that lie in both regions.
 fn operations_of_both(alloc: Global, region: &Region, shape: &Region) -> Result<Values, AllocError>
     ensures { IfOk result (λ operations. AreAsked (shape.now ∷ []) region.now operations) }
 {
-    if have_common(alloc, region, shape)? {
-        values_of_both(alloc, &region.operation, &shape.operation)
-    } else {
-        Ok(nothing(alloc))
+    match ask_of_both(region, shape) {
+        Some(_) => values_of_both(alloc, &region.operation, &shape.operation),
+        None => Ok(nothing(alloc)),
     }
 }
 
@@ -109,17 +68,6 @@ fn nothing(alloc: Global) -> Values
     }
 }
 
-/// The values of one or the other.
-#[tactic(auto, using(gw_ask_sets::proofs::regions_lemmas::ValueLaw::united_values))]
-fn values_of_either(alloc: Global, a: &Values, b: &Values) -> Result<Values, AllocError>
-    ensures { IfOk result (λ all. (value : Option ℕ) → has all value ≡ (has a.now value || has b.now value)) }
-{
-    Ok(Values {
-        absent: a.absent || b.absent,
-        ranges: united(alloc, a.ranges.as_slice(), b.ranges.as_slice())?,
-    })
-}
-
 /// The operations of the asks of the shapes that lie in the region.
 fn asked_operations(alloc: Global, shapes: &[Region], region: &Region) -> Result<Values, AllocError>
     ensures { IfOk result (λ operations. AreAsked shapes.now region.now operations) }
@@ -127,7 +75,7 @@ fn asked_operations(alloc: Global, shapes: &[Region], region: &Region) -> Result
     let mut operations = nothing(alloc);
     for shape in shapes {
         let more = operations_of_both(alloc, region, shape)?;
-        operations = values_of_either(alloc, &operations, &more)?;
+        operations = operations.united(alloc, &more)?;
     }
     Ok(operations)
 }

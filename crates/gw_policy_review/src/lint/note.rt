@@ -18,6 +18,7 @@ use crate::lint::passage::{
 };
 use crate::lint::text::Lint;
 use crate::lint::trust_note::put_trust_notes;
+use crate::numbered::NumberedPort;
 use crate::permissions::{is_never, search_allowed};
 use crate::warnings::is_station;
 use gw_addr::{put_decimal, put_slice, put_text_number};
@@ -105,25 +106,29 @@ fn put_ports_notes(
     let ports = lint.config.ports();
     let mut rest = left;
     for place in 0..ports.len() {
-        rest = put_port_notes(alloc, out, lint, place as u16 + 1, &ports[place], rest)?;
+        let at = NumberedPort {
+            number: place + 1,
+            port: &ports[place],
+        };
+        rest = put_port_notes(alloc, out, lint, &at, rest)?;
     }
     Ok(rest)
 }
 
-/// Appends the notes on one port, the one of this number.
+/// Appends the notes on one port.
 fn put_port_notes(
     alloc: Global,
     out: &mut Vec<u8>,
     lint: &Lint<'_>,
-    number: u16,
-    port: &Port,
+    at: &NumberedPort<'_>,
     left: u32,
 ) -> Result<u32, AllocError>
-    ensures { IfOk result (λ rest. Appends (ArePortNotes lint.now.config.now lint.now.lines.now number port.now left rest)
+    ensures { IfOk result (λ rest.
+        Appends (ArePortNotes lint.now.config.now lint.now.lines.now at.now.number at.now.port.now left rest)
         out.old.items out.new.items) }
 {
-    put_stations_note(out, number, port)?;
-    put_answer_notes(alloc, out, lint, &NumberedPort { number, port }, left)
+    put_stations_note(out, at)?;
+    put_answer_notes(alloc, out, lint, at, left)
 }
 
 /// Whether a subnet of the port's stations has its own address, and none has its broadcast address.
@@ -134,22 +139,22 @@ fn lacks_broadcast(port: &Port) -> bool
 }
 
 /// Appends a note if that is so.
-fn put_stations_note(out: &mut Vec<u8>, number: u16, port: &Port) -> Result<(), AllocError>
-    ensures { OnOk result (out.new.items ≡ out.old.items ++ stations_note number port.now) }
+fn put_stations_note(out: &mut Vec<u8>, at: &NumberedPort<'_>) -> Result<(), AllocError>
+    ensures { OnOk result (out.new.items ≡ out.old.items ++ stations_note at.now.number at.now.port.now) }
 {
-    if lacks_broadcast(port) {
-        put_stations_words(out, number, port)
+    if lacks_broadcast(at.port) {
+        put_stations_words(out, at)
     } else {
         Ok(())
     }
 }
 
-fn put_stations_words(out: &mut Vec<u8>, number: u16, port: &Port) -> Result<(), AllocError>
-    ensures { OnOk result (out.new.items ≡ out.old.items ++ stations_words number port.now) }
+fn put_stations_words(out: &mut Vec<u8>, at: &NumberedPort<'_>) -> Result<(), AllocError>
+    ensures { OnOk result (out.new.items ≡ out.old.items ++ stations_words at.now.number at.now.port.now) }
 {
-    put_text_number(out, "note: look at port ", number)?;
+    put_text_number(out, "note: look at port ", at.number)?;
     out.extend_from_slice(b": stations: none of them has its broadcast address ")?;
-    port.broadcast.put_text(out)?;
+    at.port.broadcast.put_text(out)?;
     put_slice(out, b", though one has its own\n")
 }
 
@@ -356,13 +361,13 @@ fn put_object_note(
     out.extend_from_slice(b"object_type: without one, requests pass that name no object\n")
 }
 
-/// A port by its number, from 1.
+/// Two ports: requests go from the network of the one to that of the other, and their answers back.
 #[derive(Clone, Copy)]
-struct NumberedPort<'a> {
-    /// The number.
-    number: u16,
-    /// The port.
-    port: &'a Port,
+struct Way<'a> {
+    /// The port in whose network the requests begin.
+    from: NumberedPort<'a>,
+    /// The one to whose network they go.
+    to: NumberedPort<'a>,
 }
 
 /// Appends a note for each port to whose network requests are found to pass from the network of this one, and no
@@ -381,11 +386,14 @@ fn put_answer_notes(
     let ports = lint.config.ports();
     let mut rest = left;
     for place in 0..ports.len() {
-        let to = NumberedPort {
-            number: place as u16 + 1,
-            port: &ports[place],
+        let way = Way {
+            from: *from,
+            to: NumberedPort {
+                number: place + 1,
+                port: &ports[place],
+            },
         };
-        rest = put_answer_note(alloc, out, lint, from, &to, rest)?;
+        rest = put_answer_note(alloc, out, lint, &way, rest)?;
     }
     Ok(rest)
 }
@@ -395,21 +403,20 @@ fn put_answer_note(
     alloc: Global,
     out: &mut Vec<u8>,
     lint: &Lint<'_>,
-    from: &NumberedPort<'_>,
-    to: &NumberedPort<'_>,
+    way: &Way<'_>,
     left: u32,
 ) -> Result<u32, AllocError>
-    ensures { IfOk result (λ rest. Appends (IsNoteOnAnswers lint.now.config.now lint.now.lines.now from.now.number from.now.port.now
-        to.now.number to.now.port.now left rest) out.old.items out.new.items) }
+    ensures { IfOk result (λ rest. Appends (IsNoteOnAnswers lint.now.config.now lint.now.lines.now way.now.from.number
+        way.now.from.port.now way.now.to.number way.now.to.port.now left rest) out.old.items out.new.items) }
 {
-    let here = from.port.network.get();
-    if here == to.port.network.get() {
+    let here = way.from.port.network.get();
+    if here == way.to.port.network.get() {
         return Ok(left);
     }
-    let asked = answers(lint.config.format(), to.number, to.port, here);
+    let asked = answers(lint.config.format(), &way.to, here);
     let back = search_shape(alloc, lint.config.rules(), asked, left)?;
     if is_never(&back.outcome) {
-        put_request_note(alloc, out, lint, from, to.port, back.left)
+        put_request_note(alloc, out, lint, way, back.left)
     } else {
         Ok(back.left)
     }
@@ -420,16 +427,14 @@ fn put_request_note(
     alloc: Global,
     out: &mut Vec<u8>,
     lint: &Lint<'_>,
-    from: &NumberedPort<'_>,
-    to: &Port,
+    way: &Way<'_>,
     left: u32,
 ) -> Result<u32, AllocError>
-    ensures { IfOk result (λ rest.
-        Appends (IsWay lint.now.config.now lint.now.lines.now from.now.number from.now.port.now to.now Never left rest)
-        out.old.items out.new.items) }
+    ensures { IfOk result (λ rest. Appends (IsWay lint.now.config.now lint.now.lines.now way.now.from.number way.now.from.port.now
+        way.now.to.port.now Never left rest) out.old.items out.new.items) }
 {
-    let (here, there) = (from.port.network.get(), to.network.get());
-    let asked = requests(lint.config.format(), from.number, from.port, there);
+    let (here, there) = (way.from.port.network.get(), way.to.port.network.get());
+    let asked = requests(lint.config.format(), &way.from, there);
     let found = search_shape(alloc, lint.config.rules(), asked, left)?;
     put_way_note(out, lint, here, there, &found.outcome)?;
     Ok(found.left)

@@ -4,12 +4,12 @@ ghost use Rattle.gw_policy_review.specs.lint.Passage.{ArePassages, answers, is_f
 ghost use Rattle.gw_policy_review.specs.lint.Passage.{shapes_for, towards, unnamed_of, unnamed_shapes};
 ghost use Rattle.gw_policy_review.specs.permissions.Passing.{IsPassage};
 
+use crate::numbered::NumberedPort;
 use crate::permissions::{Passage, search_allowed};
 use gw_addr::NetNum;
 use gw_ask_sets::shapes::{
     Origin, Outcome, Shape, Side, aimed, bound, has_number, is_manager, numbers, only,
 };
-use gw_configuration::Port;
 use gw_rules::{Format, Operation, RuleList};
 use std::alloc::{AllocError, Global};
 
@@ -104,33 +104,32 @@ pub(crate) fn shapes_for(
     Ok(made)
 }
 
-/// Messages with these services that are routed from the network of a port, of this number, to another
-/// network.
-fn routed(format: Format, number: u16, from: &Port, to: u16, services: Side) -> Shape
-    ensures { result ≡ routed format number from.now to services }
+/// Messages with these services that are routed from the network of a port to another network.
+fn routed(format: Format, from: &NumberedPort<'_>, to: u16, services: Side) -> Shape
+    ensures { result ≡ routed format from.now.number from.now.port.now to services }
 {
     let own = Origin::own(
         format,
-        u64::from(number),
-        u64::from(from.network.get()),
-        is_manager(from),
+        from.number as u64,
+        u64::from(from.port.network.get()),
+        is_manager(from.port),
     );
     let shape = bound(&own, Operation::Route, services, only(u64::from(to)));
     aimed(format, &shape)
 }
 
 /// Requests that are answered, by their confirmed services (clause 21).
-pub(crate) fn requests(format: Format, number: u16, from: &Port, to: u16) -> Shape
-    ensures { result ≡ requests format number from.now to }
+pub(crate) fn requests(format: Format, from: &NumberedPort<'_>, to: u16) -> Shape
+    ensures { result ≡ requests format from.now.number from.now.port.now to }
 {
-    routed(format, number, from, to, numbers(0, 255))
+    routed(format, from, to, numbers(0, 255))
 }
 
 /// APDUs that are no requests, by their types (clause 20.1).
-pub(crate) fn answers(format: Format, number: u16, from: &Port, to: u16) -> Shape
-    ensures { result ≡ answers format number from.now to }
+pub(crate) fn answers(format: Format, from: &NumberedPort<'_>, to: u16) -> Shape
+    ensures { result ≡ answers format from.now.number from.now.port.now to }
 {
-    routed(format, number, from, to, numbers(1026, 1031))
+    routed(format, from, to, numbers(1026, 1031))
 }
 
 /// Whether it is a shape of reads or writes that name no object.

@@ -7,10 +7,11 @@ ghost use Rattle.gw_policy_review.specs.lint.Text.{decides_at, found_text, head_
 ghost use Rattle.gw_policy_review.specs.lint.Text.{likeness_text, line_text, name_at, rule_text, says_same};
 
 use crate::lint::Finding;
+use crate::permissions::allows_at;
 use crate::places::{is_derived, put_place};
 use gw_addr::put_decimal;
 use gw_ask_sets::ask_text::put_ask;
-use gw_ask_sets::shapes::rule_at;
+use gw_ask_sets::numbered::item_at;
 use gw_configuration::Config;
 use gw_rules::{Rule, RuleList};
 use std::alloc::AllocError;
@@ -125,7 +126,7 @@ impl Lint<'_> {
 fn put_name(out: &mut Vec<u8>, rules: &RuleList, number: u16) -> Result<(), AllocError>
     ensures { OnOk result (out.new.items ≡ out.old.items ++ name_at rules.now number) }
 {
-    match rule_at(rules, number) {
+    match item_at(rules.rules(), Some(number)) {
         Some(rule) => out.extend_from_slice(rule.name.as_str().as_bytes()),
         None => Ok(()),
     }
@@ -137,7 +138,7 @@ fn is_allowed_before(rules: &RuleList, number: u16, found: &Finding) -> bool
     ensures { result ≡ is_allowed_before rules.now number found.now }
 {
     match found {
-        Finding::TakenBy(by) => allows_at(rules, *by),
+        Finding::TakenBy(by) => allows_at(rules.rules(), *by),
         Finding::TakenTogether => all_allow_before(rules.rules(), number),
         _ => false,
     }
@@ -189,19 +190,9 @@ fn put_likeness(out: &mut Vec<u8>, rules: &RuleList, one: u16, other: u16) -> Re
 fn says_same(rules: &RuleList, one: u16, other: u16) -> bool
     ensures { result ≡ says_same rules.now one other }
 {
-    if allows_at(rules, one) {
-        allows_at(rules, other)
+    if allows_at(rules.rules(), one) {
+        allows_at(rules.rules(), other)
     } else {
-        !allows_at(rules, other)
-    }
-}
-
-/// Whether the rule of this number allows.
-pub(crate) fn allows_at(rules: &RuleList, number: u16) -> bool
-    ensures { result ≡ allows_at rules.now number }
-{
-    match rule_at(rules, number) {
-        Some(rule) => rule.allow,
-        None => false,
+        !allows_at(rules.rules(), other)
     }
 }

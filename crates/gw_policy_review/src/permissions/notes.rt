@@ -4,7 +4,7 @@ ghost use Rattle.gw_script.specs.Order.{in_order};
 ghost use Rattle.gw_policy_review.specs.permissions.Permissions.{named_note, note_line};
 
 use crate::permissions::words::Placed;
-use gw_ask_sets::shapes::rule_at;
+use gw_ask_sets::numbered::item_at;
 use gw_configuration::{Text, put_shown};
 use gw_rules::Rule;
 use std::alloc::AllocError;
@@ -34,7 +34,7 @@ fn put_note(
     if note.as_str().is_empty() {
         return Ok(());
     }
-    match rule_at(placed.config.rules(), number) {
+    match item_at(placed.config.rules().rules(), Some(number)) {
         Some(rule) => put_named(out, placed, number, rule, note),
         None => Ok(()),
     }

@@ -26,21 +26,41 @@ const OBJECT_LIST: u64 = 76;
 /// That of Present_Value.
 const PRESENT_VALUE: u64 = 85;
 
-/// That of Priority_Array.
-const PRIORITY_ARRAY: u64 = 87;
+/// A property by its number (clause 21), and its name.
+#[derive(Clone, Copy)]
+struct NamedProperty {
+    /// The number.
+    number: u64,
+    /// The name.
+    name: &'static str,
+}
 
-/// That of Relinquish_Default.
-const RELINQUISH_DEFAULT: u64 = 104;
+const PRIORITY_ARRAY: NamedProperty = NamedProperty {
+    number: 87,
+    name: "Priority_Array",
+};
 
-/// An object of the device by its number, from 1, and a network whose claims are to read it.
+const RELINQUISH_DEFAULT: NamedProperty = NamedProperty {
+    number: 104,
+    name: "Relinquish_Default",
+};
+
+/// An object of the device by its number, from 1.
+#[derive(Clone, Copy)]
+struct NumberedObject<'a> {
+    /// The number.
+    number: usize,
+    /// The object.
+    object: &'a Object,
+}
+
+/// Such an object, and a network whose claims are to read it.
 #[derive(Clone, Copy)]
 struct Reader<'a> {
     /// The configuration.
     config: &'a Config,
-    /// The object's number.
-    number: usize,
     /// The object.
-    object: &'a Object,
+    at: NumberedObject<'a>,
     /// The network.
     network: u16,
 }
@@ -59,29 +79,32 @@ pub(crate) fn put_objects(
     let objects = config.objects();
     let mut rest = left;
     for place in 0..objects.len() {
-        rest = put_object(alloc, out, config, place + 1, &objects[place], rest)?;
+        let at = NumberedObject {
+            number: place + 1,
+            object: &objects[place],
+        };
+        rest = put_object(alloc, out, config, &at, rest)?;
     }
     Ok(rest)
 }
 
-/// Appends the lines of the object of this number, in order of the ports.
+/// Appends the lines of an object, in order of the ports.
 fn put_object(
     alloc: Global,
     out: &mut Vec<u8>,
     config: &Config,
-    number: usize,
-    object: &Object,
+    at: &NumberedObject<'_>,
     left: u32,
 ) -> Result<u32, AllocError>
-    ensures { IfOk result (λ rest. Appends (AreObjectLines config.now number object.now left rest) out.old.items out.new.items) }
+    ensures { IfOk result (λ rest.
+        Appends (AreObjectLines config.now at.now.number at.now.object.now left rest) out.old.items out.new.items) }
 {
     let ports = config.ports();
     let mut rest = left;
     for place in 0..ports.len() {
         let reader = Reader {
             config,
-            number,
-            object,
+            at: *at,
             network: ports[place].network.get(),
         };
         rest = reader.put(alloc, out, rest)?;
@@ -103,10 +126,10 @@ impl Reader<'_> {
     /// Appends what is said of the object, where so many steps are left, and says how many are left then.
     fn put(&self, alloc: Global, out: &mut Vec<u8>, left: u32) -> Result<u32, AllocError>
         ensures { IfOk result (λ rest.
-            Appends (AreReadings self.now.config.now self.now.number self.now.object.now self.now.network left rest)
+            Appends (AreReadings self.now.config.now self.now.at.number self.now.at.object.now self.now.network left rest)
             out.old.items out.new.items) }
     {
-        let found = self.find(alloc, point_of(self.object, any_property()), left)?;
+        let found = self.find(alloc, point_of(self.at.object, any_property()), left)?;
         if is_never(&found.outcome) {
             self.put_hiding(alloc, out, found.left)
         } else {
@@ -117,10 +140,10 @@ impl Reader<'_> {
     /// Appends that it is hidden from the network, and what names it there.
     fn put_hiding(&self, alloc: Global, out: &mut Vec<u8>, left: u32) -> Result<u32, AllocError>
         ensures { IfOk result (λ rest.
-            Appends (IsHiding self.now.config.now self.now.number self.now.object.now self.now.network left rest)
+            Appends (IsHiding self.now.config.now self.now.at.number self.now.at.object.now self.now.network left rest)
             out.old.items out.new.items) }
     {
-        put_hidden(out, self.number, self.object, self.network)?;
+        self.at.put_hidden(out, self.network)?;
         out.extend_from_slice(b": from whoever claims to be of it\n")?;
         self.put_list(alloc, out, left)
     }
@@ -128,7 +151,7 @@ impl Reader<'_> {
     /// Appends that the device's Object_List names it to the network, if that is read.
     fn put_list(&self, alloc: Global, out: &mut Vec<u8>, left: u32) -> Result<u32, AllocError>
         ensures { IfOk result (λ rest.
-            Appends (IsListed self.now.config.now self.now.number self.now.object.now self.now.network left rest)
+            Appends (IsListed self.now.config.now self.now.at.number self.now.at.object.now self.now.network left rest)
             out.old.items out.new.items) }
     {
         let found = self.find(alloc, object_list(self.config.device()), left)?;
@@ -138,7 +161,7 @@ impl Reader<'_> {
 
     fn put_list_line(&self, out: &mut Vec<u8>, found: &Outcome) -> Result<(), AllocError>
         ensures { OnOk result (out.new.items ≡ out.old.items
-            ++ list_line self.now.number self.now.object.now self.now.network found.now) }
+            ++ list_line self.now.at.number self.now.at.object.now self.now.network found.now) }
     {
         if is_never(found) {
             return Ok(());
@@ -150,10 +173,10 @@ impl Reader<'_> {
     /// Appends the properties that reveal its Present_Value, if that is hidden from the network.
     fn put_revealing(&self, alloc: Global, out: &mut Vec<u8>, left: u32) -> Result<u32, AllocError>
         ensures { IfOk result (λ rest.
-            Appends (AreRevealing self.now.config.now self.now.number self.now.object.now self.now.network left rest)
+            Appends (AreRevealing self.now.config.now self.now.at.number self.now.at.object.now self.now.network left rest)
             out.old.items out.new.items) }
     {
-        let found = self.find(alloc, point_of(self.object, only(PRESENT_VALUE)), left)?;
+        let found = self.find(alloc, point_of(self.at.object, only(PRESENT_VALUE)), left)?;
         if is_never(&found.outcome) {
             self.put_properties(alloc, out, found.left)
         } else {
@@ -163,17 +186,11 @@ impl Reader<'_> {
 
     fn put_properties(&self, alloc: Global, out: &mut Vec<u8>, left: u32) -> Result<u32, AllocError>
         ensures { IfOk result (λ rest.
-            Appends (AreProperties self.now.config.now self.now.number self.now.object.now self.now.network left rest)
+            Appends (AreProperties self.now.config.now self.now.at.number self.now.at.object.now self.now.network left rest)
             out.old.items out.new.items) }
     {
-        let between = self.put_property(alloc, out, PRIORITY_ARRAY, "Priority_Array", left)?;
-        self.put_property(
-            alloc,
-            out,
-            RELINQUISH_DEFAULT,
-            "Relinquish_Default",
-            between,
-        )
+        let between = self.put_property(alloc, out, PRIORITY_ARRAY, left)?;
+        self.put_property(alloc, out, RELINQUISH_DEFAULT, between)
     }
 
     /// Appends that this property is read, if it is.
@@ -181,15 +198,14 @@ impl Reader<'_> {
         &self,
         alloc: Global,
         out: &mut Vec<u8>,
-        property: u64,
-        name: &str,
+        property: NamedProperty,
         left: u32,
     ) -> Result<u32, AllocError>
-        ensures { IfOk result (λ rest. Appends (IsProperty self.now.config.now self.now.number self.now.object.now self.now.network
-            property name.now left rest) out.old.items out.new.items) }
+        ensures { IfOk result (λ rest. Appends (IsProperty self.now.config.now self.now.at.number self.now.at.object.now self.now.network
+            property.number property.name.now left rest) out.old.items out.new.items) }
     {
-        let found = self.find(alloc, point_of(self.object, only(property)), left)?;
-        self.put_property_line(out, name, &found.outcome)?;
+        let found = self.find(alloc, point_of(self.at.object, only(property.number)), left)?;
+        self.put_property_line(out, property.name, &found.outcome)?;
         Ok(found.left)
     }
 
@@ -200,7 +216,7 @@ impl Reader<'_> {
         found: &Outcome,
     ) -> Result<(), AllocError>
         ensures { OnOk result (out.new.items ≡ out.old.items
-            ++ property_line self.now.number self.now.object.now self.now.network name.now found.now) }
+            ++ property_line self.now.at.number self.now.at.object.now self.now.network name.now found.now) }
     {
         if is_never(found) {
             return Ok(());
@@ -212,9 +228,9 @@ impl Reader<'_> {
     /// Appends that the network reads something, or that it may.
     fn put_reads(&self, out: &mut Vec<u8>, found: &Outcome) -> Result<(), AllocError>
         ensures { OnOk result (out.new.items ≡ out.old.items
-            ++ network_reads self.now.number self.now.object.now self.now.network found.now) }
+            ++ network_reads self.now.at.number self.now.at.object.now self.now.network found.now) }
     {
-        put_words(out, self.number, self.object)?;
+        self.at.put(out)?;
         put_text_number(out, ": network ", self.network)?;
         put_reads_words(out, found)
     }
@@ -237,34 +253,31 @@ fn put_property_words(out: &mut Vec<u8>, name: &str) -> Result<(), AllocError>
     out.extend_from_slice(b", though not its Present_Value\n")
 }
 
-/// Appends that an object is hidden from the network.
-fn put_hidden(
-    out: &mut Vec<u8>,
-    number: usize,
-    object: &Object,
-    network: u16,
-) -> Result<(), AllocError>
-    ensures { OnOk result (out.new.items ≡ out.old.items ++ hidden_words number object.now network) }
-{
-    put_words(out, number, object)?;
-    put_text_number(out, " is hidden from network ", network)
-}
+impl NumberedObject<'_> {
+    /// Appends the object by its number, its type and instance, and its name.
+    fn put(&self, out: &mut Vec<u8>) -> Result<(), AllocError>
+        ensures { OnOk result (out.new.items ≡ out.old.items ++ object_words self.now.number self.now.object.now) }
+    {
+        self.put_identifier(out)?;
+        put_name(out, self.object)
+    }
 
-/// Appends an object by its number, its type and instance, and its name.
-fn put_words(out: &mut Vec<u8>, number: usize, object: &Object) -> Result<(), AllocError>
-    ensures { OnOk result (out.new.items ≡ out.old.items ++ object_words number object.now) }
-{
-    put_identifier(out, number, object)?;
-    put_name(out, object)
-}
+    fn put_identifier(&self, out: &mut Vec<u8>) -> Result<(), AllocError>
+        ensures { OnOk result (out.new.items ≡ out.old.items ++ identifier_words self.now.number self.now.object.now) }
+    {
+        put_text_number(out, "object ", self.number)?;
+        put_text_number(out, " (", self.object.value.type_number())?;
+        put_text_number(out, ",", self.object.instance.get())?;
+        out.extend_from_slice(b") \"")
+    }
 
-fn put_identifier(out: &mut Vec<u8>, number: usize, object: &Object) -> Result<(), AllocError>
-    ensures { OnOk result (out.new.items ≡ out.old.items ++ identifier_words number object.now) }
-{
-    put_text_number(out, "object ", number)?;
-    put_text_number(out, " (", object.value.type_number())?;
-    put_text_number(out, ",", object.instance.get())?;
-    out.extend_from_slice(b") \"")
+    /// Appends that it is hidden from the network.
+    fn put_hidden(&self, out: &mut Vec<u8>, network: u16) -> Result<(), AllocError>
+        ensures { OnOk result (out.new.items ≡ out.old.items ++ hidden_words self.now.number self.now.object.now network) }
+    {
+        self.put(out)?;
+        put_text_number(out, " is hidden from network ", network)
+    }
 }
 
 fn put_name(out: &mut Vec<u8>, object: &Object) -> Result<(), AllocError>
@@ -328,7 +341,11 @@ pub(crate) fn put_plain(
         out.old.items ++ in_order (plain_lines rules.now ports.now) 1 objects.now) }
 {
     for place in 0..objects.len() {
-        put_plain_object(out, rules, ports, place + 1, &objects[place])?;
+        let at = NumberedObject {
+            number: place + 1,
+            object: &objects[place],
+        };
+        put_plain_object(out, rules, ports, &at)?;
     }
     Ok(())
 }
@@ -337,14 +354,13 @@ fn put_plain_object(
     out: &mut Vec<u8>,
     rules: &RuleList,
     ports: &[Port],
-    number: usize,
-    object: &Object,
+    at: &NumberedObject<'_>,
 ) -> Result<(), AllocError>
     ensures { OnOk result
-        (out.new.items ≡ out.old.items ++ plain_lines rules.now ports.now number object.now) }
+        (out.new.items ≡ out.old.items ++ plain_lines rules.now ports.now at.now.number at.now.object.now) }
 {
     for port in ports {
-        put_plain_line(out, rules, number, object, port)?;
+        put_plain_line(out, rules, at, port)?;
     }
     Ok(())
 }
@@ -352,17 +368,16 @@ fn put_plain_object(
 fn put_plain_line(
     out: &mut Vec<u8>,
     rules: &RuleList,
-    number: usize,
-    object: &Object,
+    at: &NumberedObject<'_>,
     port: &Port,
 ) -> Result<(), AllocError>
     ensures { OnOk result
-        (out.new.items ≡ out.old.items ++ hidden_line rules.now number object.now port.now) }
+        (out.new.items ≡ out.old.items ++ hidden_line rules.now at.now.number at.now.object.now port.now) }
 {
     let network = port.network.get();
-    if !is_hidden(rules, object, network) {
+    if !is_hidden(rules, at.object, network) {
         return Ok(());
     }
-    put_hidden(out, number, object, network)?;
+    at.put_hidden(out, network)?;
     out.extend_from_slice(b"\n")
 }

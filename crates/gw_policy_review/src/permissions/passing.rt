@@ -1,16 +1,16 @@
 //! What a policy allows of the asks of some shapes.
-ghost use Rattle.std.specs.Prelude.{◌≡◌, ◌-◌, ◌≤◌, length, position, take, IfOk};
+ghost use Rattle.std.specs.Prelude.{◌≡◌, ◌-◌, ◌≤◌, length, take, IfOk};
 ghost use Rattle.std.specs.List.{list_any};
 ghost use Rattle.gw_ask_sets.specs.shapes.Meeting.{meets};
 ghost use Rattle.gw_rules.specs.RuleList.{allows_at};
-ghost use Rattle.gw_policy_review.specs.permissions.Passing.{IsDecision, IsPassage, IsSaidBy, decides_all, default_rule, is_never, is_said};
-ghost use Rattle.gw_policy_review.specs.permissions.Passing.{matches_all, may_allow, may_pass, reached, searched_rules};
+ghost use Rattle.gw_policy_review.specs.permissions.Passing.{IsDecision, IsPassage, IsSaidBy, decides_all, is_never, is_said};
+ghost use Rattle.gw_policy_review.specs.permissions.Passing.{matches_all, searched_rules};
 
 use crate::lint::steps_given;
-use gw_addr::Sequence;
-use gw_ask_sets::regions::all_tidied;
+use gw_ask_sets::numbered::item_at;
+use gw_ask_sets::regions::{all_tidied, default_rule};
 use gw_ask_sets::shapes::{Outcome, Shape, Sought, meets, search_for, takes_side};
-use gw_rules::{FieldName, Fields, Rule, RuleList, RuleName};
+use gw_rules::{FieldName, Rule, RuleList};
 use std::alloc::{AllocError, Global};
 
 /// Whether the rule matches each ask of the shape: in each field that it names one of its ranges holds
@@ -25,45 +25,6 @@ fn matches_all(shape: &Shape, rule: &Rule) -> bool
     ))
 }
 
-/// The place of the first rule that matches each ask of the shape.
-pub fn place_of_all(shape: &Shape, rules: &[Rule]) -> Option<usize>
-    ensures { result ≡ position (matches_all shape.now) rules.now }
-{
-    rules.iter().position(|rule| matches_all(shape, rule))
-}
-
-/// How many rules the asks of the shape come to: those up to the first that matches each of them.
-fn reached(shape: &Shape, rules: &[Rule]) -> usize
-    ensures count { result ≡ reached shape.now rules.now }
-    ensures within { result ≤ length rules.now }
-{
-    match place_of_all(shape, rules) {
-        Some(place) => place + 1,
-        None => rules.len(),
-    }
-}
-
-/// Whether the rule allows, and may match asks of the shape.
-pub fn may_allow(shape: &Shape, rule: &Rule) -> bool
-    ensures { result ≡ may_allow shape.now rule.now }
-{
-    rule.allow && meets(shape, rule)
-}
-
-fn any_may_allow(shape: &Shape, rules: &[Rule]) -> bool
-    ensures { result ≡ list_any (may_allow shape.now) rules.now }
-{
-    rules.iter().any(|rule| may_allow(shape, rule))
-}
-
-/// Whether a rule that asks of the shape come to may allow some.
-pub fn may_pass(shape: &Shape, rules: &[Rule]) -> bool
-    ensures { result ≡ may_pass shape.now rules.now }
-{
-    let count = reached(shape, rules);
-    any_may_allow(shape, &rules[..count])
-}
-
 fn any_meets(shape: &Shape, rules: &[Rule]) -> bool
     ensures { result ≡ list_any (meets shape.now) rules.now }
 {
@@ -72,37 +33,12 @@ fn any_meets(shape: &Shape, rules: &[Rule]) -> bool
 
 /// Whether the rule of this number, from 1, matches each ask of the shape, and no rule before it matches
 /// any.
-pub fn decides_all(shape: &Shape, rules: &[Rule], number: usize, rule: &Rule) -> bool
+pub(crate) fn decides_all(shape: &Shape, rules: &[Rule], number: usize, rule: &Rule) -> bool
     requires { number ≤ length rules.now }
     ensures { result ≡ decides_all shape.now rules.now number rule.now }
 {
     let before = number.saturating_sub(1);
     matches_all(shape, rule) && !any_meets(shape, &rules[..before])
-}
-
-/// The rule behind all others, which denies each ask.
-fn default_rule(alloc: Global) -> Rule
-    ensures { result ≡ default_rule }
-{
-    Rule {
-        name: RuleName::of_no_rule(),
-        allow: false,
-        quiet: false,
-        ranges: Fields {
-            operation: Sequence::new(alloc),
-            port: Sequence::new(alloc),
-            source_network: Sequence::new(alloc),
-            source_key: Sequence::new(alloc),
-            destination_network: Sequence::new(alloc),
-            service: Sequence::new(alloc),
-            object_type: Sequence::new(alloc),
-            instance: Sequence::new(alloc),
-            property: Sequence::new(alloc),
-            priority: Sequence::new(alloc),
-            sender: Sequence::new(alloc),
-            station: Sequence::new(alloc),
-        },
-    }
 }
 
 /// The rules as they are searched: their ranges are in order, and the default is behind them.
@@ -115,10 +51,10 @@ fn searched_rules(alloc: Global, rules: &[Rule]) -> Result<Vec<Rule>, AllocError
 }
 
 /// Whether the rule of this number, from 1, is there and allows.
-fn allows_at(rules: &[Rule], number: u16) -> bool
+pub(crate) fn allows_at(rules: &[Rule], number: u16) -> bool
     ensures { result ≡ allows_at rules.now number }
 {
-    match rules.get(usize::from(number).saturating_sub(1)) {
+    match item_at(rules, Some(number)) {
         Some(rule) => rule.allow,
         None => false,
     }

@@ -5,6 +5,7 @@ ghost use Rattle.gw_policy_review.specs.permissions.Questions.{entering};
 ghost use Rattle.gw_policy_review.specs.permissions.Permissions.{AppendsEntries, AppendsGrants, AppendsPort, AppendsPorts, everyone_words, foreign_words};
 ghost use Rattle.gw_policy_review.specs.permissions.Permissions.{managed_words, manager_words, named_words, stations_words, subnet_words};
 
+use crate::numbered::NumberedPort;
 use crate::permissions::grants::{Deed, Inquiry, put_grants};
 use crate::permissions::questions::entering;
 use crate::permissions::words::Placed;
@@ -26,26 +27,29 @@ pub(crate) fn put_ports(
     let ports = placed.config.ports();
     let mut rest = left;
     for place in 0..ports.len() {
-        rest = put_port(alloc, out, placed, place + 1, &ports[place], rest)?;
+        let at = NumberedPort {
+            number: place + 1,
+            port: &ports[place],
+        };
+        rest = put_port(alloc, out, placed, &at, rest)?;
     }
     Ok(rest)
 }
 
-/// Appends the lines of the port of this number.
+/// Appends the lines of a port.
 fn put_port(
     alloc: Global,
     out: &mut Vec<u8>,
     placed: &Placed<'_>,
-    number: usize,
-    port: &Port,
+    at: &NumberedPort<'_>,
     left: u32,
 ) -> Result<u32, AllocError>
-    ensures { IfOk result (λ rest.
-        AppendsPort placed.now.config.now placed.now.lines.now number port.now left rest out.old.items out.new.items) }
+    ensures { IfOk result (λ rest. AppendsPort placed.now.config.now placed.now.lines.now at.now.number at.now.port.now left rest
+        out.old.items out.new.items) }
 {
-    put_text_number(out, "port ", number)?;
-    put_stations(out, port)?;
-    put_entries(alloc, out, placed, number, port, left)
+    put_text_number(out, "port ", at.number)?;
+    put_stations(out, at.port)?;
+    put_entries(alloc, out, placed, at, left)
 }
 
 /// Appends who the stations are.
@@ -128,33 +132,31 @@ fn put_entries(
     alloc: Global,
     out: &mut Vec<u8>,
     placed: &Placed<'_>,
-    number: usize,
-    port: &Port,
+    at: &NumberedPort<'_>,
     left: u32,
 ) -> Result<u32, AllocError>
-    ensures { IfOk result (λ rest.
-        AppendsEntries placed.now.config.now placed.now.lines.now number port.now left rest out.old.items out.new.items) }
+    ensures { IfOk result (λ rest. AppendsEntries placed.now.config.now placed.now.lines.now at.now.number at.now.port.now left rest
+        out.old.items out.new.items) }
 {
-    if port.stations.as_slice().is_empty() {
+    if at.port.stations.as_slice().is_empty() {
         return Ok(left);
     }
-    put_strangers(alloc, out, placed, number, port.network.get(), left)
+    put_strangers(alloc, out, placed, at, left)
 }
 
 fn put_strangers(
     alloc: Global,
     out: &mut Vec<u8>,
     placed: &Placed<'_>,
-    number: usize,
-    network: u16,
+    at: &NumberedPort<'_>,
     left: u32,
 ) -> Result<u32, AllocError>
-    ensures { IfOk result (λ rest. AppendsGrants placed.now.config.now placed.now.lines.now (Deed.Enter number)
-        (entering number network) left rest out.old.items out.new.items) }
+    ensures { IfOk result (λ rest. AppendsGrants placed.now.config.now placed.now.lines.now (Deed.Enter at.now.number)
+        (entering at.now.number at.now.port.now.network) left rest out.old.items out.new.items) }
 {
     let inquiry = Inquiry {
-        deed: Deed::Enter(number),
-        shape: entering(number as u64, u64::from(network)),
+        deed: Deed::Enter(at.number),
+        shape: entering(at.number as u64, u64::from(at.port.network.get())),
         placed: *placed,
     };
     put_grants(alloc, out, &inquiry, left)

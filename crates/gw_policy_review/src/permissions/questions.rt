@@ -2,8 +2,8 @@
 ghost use Rattle.std.specs.Prelude.{◌≡◌};
 ghost use Rattle.gw_policy_review.specs.permissions.Questions.{any_of, claiming, entering, reading};
 
-use gw_ask_sets::shapes::{Entrance, Origin, Shape, Side, bound, numbers, only};
-use gw_rules::{Format, Operation, Range};
+use gw_ask_sets::shapes::{Entrance, NETWORK, NOTHING, Origin, Shape, Side, bound, numbers, only};
+use gw_rules::{Format, Operation};
 
 /// Properties of an object, by its type and instance.
 #[derive(Clone, Copy)]
@@ -15,23 +15,6 @@ pub(crate) struct Point {
     /// The numbers of the properties (clause 21).
     pub property: Side,
 }
-
-/// An absent field.
-const NOTHING: Side = Side {
-    absent: true,
-    range: Range { low: 1, high: 0 },
-    keyed: false,
-};
-
-/// Any network (clause 6).
-const ANY_NETWORK: Side = Side {
-    absent: false,
-    range: Range {
-        low: 1,
-        high: 65534,
-    },
-    keyed: false,
-};
 
 /// Any of so many ports.
 fn any_of(ports: u64) -> Entrance
@@ -55,7 +38,7 @@ pub(crate) fn entering(number: u64, network: u64) -> Shape
 pub(crate) fn claiming(ports: u64) -> Shape
     ensures { result ≡ claiming ports }
 {
-    let from = Origin::foreign(Format::Three, &any_of(ports), &ANY_NETWORK);
+    let from = Origin::foreign(Format::Three, &any_of(ports), &NETWORK);
     bound(&from, Operation::Claim, NOTHING, NOTHING)
 }
 

@@ -12,6 +12,17 @@ use gw_addr::{BdtEntry, BipAddr};
 use gw_configuration::Port;
 use std::alloc::AllocError;
 
+/// A port of a gateway by its position, from 0, among all its ports.
+#[derive(Clone, Copy)]
+pub(crate) struct PlacedPort<'a> {
+    /// All ports.
+    pub ports: &'a [Port],
+    /// The position.
+    pub place: usize,
+    /// The port.
+    pub port: &'a Port,
+}
+
 /// The least UDP port that isn't one of the system's services.
 const LEAST_USUAL: u16 = 1024;
 
@@ -65,18 +76,18 @@ pub(crate) fn put_ports(out: &mut Vec<u8>, ports: &[Port]) -> Result<(), AllocEr
     ensures { IsAppended (in_order (port_lines ports.now) 0 ports.now) out.old out.new result }
 {
     for (place, port) in ports.iter().enumerate() {
-        put_port(out, ports, place, port)?;
+        put_port(out, &PlacedPort { ports, place, port })?;
     }
     Ok(())
 }
 
 /// Appends the lines of a port, and then those of its peers.
-fn put_port(out: &mut Vec<u8>, ports: &[Port], place: usize, port: &Port) -> Result<(), AllocError>
-    ensures { IsAppended (port_lines ports.now place port.now) out.old out.new result }
+fn put_port(out: &mut Vec<u8>, at: &PlacedPort<'_>) -> Result<(), AllocError>
+    ensures { IsAppended (port_lines at.now.ports.now at.now.place at.now.port.now) out.old out.new result }
 {
-    put_own(out, place, port)?;
-    put_broadcast(out, place, port)?;
-    put_peers(out, ports, place, port, port.peers.as_slice())
+    put_own(out, at.place, at.port)?;
+    put_broadcast(out, at.place, at.port)?;
+    put_peers(out, at, at.port.peers.as_slice())
 }
 
 fn put_own(out: &mut Vec<u8>, place: usize, port: &Port) -> Result<(), AllocError>
@@ -109,47 +120,45 @@ fn put_broadcast(out: &mut Vec<u8>, place: usize, port: &Port) -> Result<(), All
 }
 
 /// Appends the lines of these peers of a port in their order.
-fn put_peers(
-    out: &mut Vec<u8>,
-    ports: &[Port],
-    place: usize,
-    port: &Port,
-    peers: &[BdtEntry],
-) -> Result<(), AllocError>
+fn put_peers(out: &mut Vec<u8>, at: &PlacedPort<'_>, peers: &[BdtEntry]) -> Result<(), AllocError>
     ensures { IsAppended
-        (in_order (peer_lines ports.now place port.now) 0 peers.now) out.old out.new result }
+        (in_order (peer_lines at.now.ports.now at.now.place at.now.port.now) 0 peers.now) out.old out.new result }
 {
     for (index, peer) in peers.iter().enumerate() {
-        put_peer(out, ports, place, port, index, peer)?;
+        put_peer(out, at, index, peer)?;
     }
     Ok(())
 }
 
 fn put_peer(
     out: &mut Vec<u8>,
-    ports: &[Port],
-    place: usize,
-    port: &Port,
+    at: &PlacedPort<'_>,
     index: usize,
     peer: &BdtEntry,
 ) -> Result<(), AllocError>
     ensures { IsAppended
-        (peer_lines ports.now place port.now index peer.now) out.old out.new result }
+        (peer_lines at.now.ports.now at.now.place at.now.port.now index peer.now) out.old out.new result }
 {
     let address = peer.address;
     let spot = Spot::PeerAddress {
-        port: place,
+        port: at.place,
         peer: index,
     };
-    let broadcasts = is_same(address, port.broadcast);
-    let owner = other_than(place, owner(ports, address));
+    let broadcasts = is_same(address, at.port.broadcast);
+    let owner = other_than(at.place, owner(at.ports, address));
     put_unusual(out, spot, address)?;
-    put_where(out, broadcasts, spot, address, Oddity::IsBroadcast(place))?;
+    put_where(
+        out,
+        broadcasts,
+        spot,
+        address,
+        Oddity::IsBroadcast(at.place),
+    )?;
     put_owned(out, spot, address, owner)?;
     put_mask(
         out,
         Spot::PeerMask {
-            port: place,
+            port: at.place,
             peer: index,
         },
         peer.mask,

@@ -4,7 +4,7 @@ ghost use Rattle.gw_script.specs.Order.{in_order};
 ghost use Rattle.gw_policy_review.specs.warnings.Warnings.{next_lines, route_lines, way_lines};
 
 use crate::warnings::oddity::{Oddity, put_owned, put_where};
-use crate::warnings::port_warnings::{is_same, owner, put_unusual};
+use crate::warnings::port_warnings::{PlacedPort, is_same, owner, put_unusual};
 use crate::warnings::spot::Spot;
 use crate::warnings::subnet::is_elsewhere;
 use gw_addr::BipAddr;
@@ -48,27 +48,25 @@ fn put_next(
     ensures { IsAppended (next_lines ports.now index next place) out.old out.new result }
 {
     match ports.get(place) {
-        Some(port) => put_way(out, ports, index, next, place, port),
+        Some(port) => put_way(out, &PlacedPort { ports, place, port }, index, next),
         None => Ok(()),
     }
 }
 
-/// Appends the lines of a route to this router by this port, at this position.
+/// Appends the lines of a route to this router by this port.
 fn put_way(
     out: &mut Vec<u8>,
-    ports: &[Port],
+    by: &PlacedPort<'_>,
     index: usize,
     next: BipAddr,
-    place: usize,
-    port: &Port,
 ) -> Result<(), AllocError>
-    ensures { IsAppended (way_lines ports.now index next place port.now) out.old out.new result }
+    ensures { IsAppended (way_lines by.now.ports.now index next by.now.place by.now.port.now) out.old out.new result }
 {
     let spot = Spot::Next(index);
-    let broadcasts = is_same(next, port.broadcast);
-    let elsewhere = is_elsewhere(port.address, port.broadcast, next);
+    let broadcasts = is_same(next, by.port.broadcast);
+    let elsewhere = is_elsewhere(by.port.address, by.port.broadcast, next);
     put_unusual(out, spot, next)?;
-    put_owned(out, spot, next, owner(ports, next))?;
-    put_where(out, broadcasts, spot, next, Oddity::IsBroadcast(place))?;
-    put_where(out, elsewhere, spot, next, Oddity::Elsewhere(place))
+    put_owned(out, spot, next, owner(by.ports, next))?;
+    put_where(out, broadcasts, spot, next, Oddity::IsBroadcast(by.place))?;
+    put_where(out, elsewhere, spot, next, Oddity::Elsewhere(by.place))
 }

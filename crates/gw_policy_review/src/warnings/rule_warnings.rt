@@ -2,11 +2,12 @@
 ghost use Rattle.std.specs.Prelude.{◌≡◌, ◌++◌, codes, decimal};
 ghost use Rattle.gw_addr.specs.Appending.{IsAppended};
 ghost use Rattle.gw_script.specs.Order.{in_order};
-ghost use Rattle.gw_policy_review.specs.warnings.Warnings.{address_of, cut_line, cut_lines, ends_words, is_cut, is_missing, item_words, missing_line, missing_lines, none_line, none_lines, range_word, range_words, rule_lines, with_udp};
+ghost use Rattle.gw_policy_review.specs.warnings.Warnings.{cut_line, cut_lines, ends_words, is_cut, is_missing, item_words, missing_line, missing_lines, none_line, none_lines, range_word, range_words, rule_lines, with_udp};
 
 use crate::warnings::spot::{put_name, put_numbered};
 use crate::warnings::subnet::number_of;
 use gw_addr::{BipAddr, put_decimal, put_octet, put_slice};
+use gw_ask_sets::ask_text::address_of;
 use gw_rules::{Format, Range, Rule, RuleName};
 use std::alloc::AllocError;
 
@@ -204,14 +205,6 @@ fn put_cut(
     } else {
         Ok(())
     }
-}
-
-/// The address of a key of 48 bits.
-pub(crate) fn address_of(key: u64) -> BipAddr
-    ensures { result ≡ address_of key }
-{
-    let [_, _, a, b, c, d, high, low] = key.to_be_bytes();
-    BipAddr::from_octets(&[a, b, c, d, high, low])
 }
 
 /// Whether a range from one address to another holds some UDP ports of these two and all of the

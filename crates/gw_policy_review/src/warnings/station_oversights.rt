@@ -9,9 +9,9 @@ ghost use Rattle.gw_policy_review.specs.warnings.Oversights.{is_left_out, is_nea
 ghost use Rattle.gw_policy_review.specs.warnings.Oversights.{hostless_line, hostless_lines, hostless_words, is_hostless, overlap_words, unheard_line, unheard_lines};
 
 use crate::warnings::port_warnings::is_same;
-use crate::warnings::rule_warnings::address_of;
 use crate::warnings::subnet::has_beside;
 use gw_addr::{BdtEntry, BipAddr, put_decimal, put_slice, put_text_number};
+use gw_ask_sets::ask_text::address_of;
 use gw_ask_sets::shapes::overlaps;
 use gw_configuration::{Config, Port, Subnet};
 use gw_rules::{Ask, Operation, Range, RuleList};
@@ -24,7 +24,7 @@ fn has_stations(port: &Port) -> bool
 }
 
 /// Whether a subnet of the port's stations has the address.
-pub(crate) fn is_station(port: &Port, address: BipAddr) -> bool
+pub fn is_station(port: &Port, address: BipAddr) -> bool
     ensures { result ≡ is_station port.now address }
 {
     port.stations

@@ -12,9 +12,9 @@ pub returns : goal.returns
 returns c =
     let config = c.args.lint.now.config.now in
     let lines = c.args.lint.now.lines.now in
-    let number = c.args.from.now.number in
-    let port = c.args.from.now.port.now in
-    let other = c.args.to.now in
+    let number = c.args.way.now.from.number in
+    let port = c.args.way.now.from.port.now in
+    let other = c.args.way.now.to.port.now in
     let left = c.args.left in
     let found = c.in_ok-found.found.outcome in
     let rest = c.in_ok-found.found.left in

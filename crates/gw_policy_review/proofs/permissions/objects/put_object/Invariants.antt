@@ -5,5 +5,5 @@ use Rattle.gw_policy_review.proofs.permissions.objects.put_object.Given as goal
 
 abbrev pub invariant-loop-place : goal.invariant-loop-place
 invariant-loop-place l =
-    Turned (λ place (port : Port). AreReadings l.config l.number l.object port.network) l.config.ports l.place l.fn.left l.rest l.fn.out.items
+    Turned (λ place (port : Port). AreReadings l.config l.at.number l.at.object.now port.network) l.config.ports l.place l.fn.left l.rest l.fn.out.items
     l.out.items

@@ -5,4 +5,4 @@ use Rattle.gw_addr.proofs.Appended.{IsGrown}
 use Rattle.gw_policy_review.proofs.warnings.port_warnings.put_peers.Given as goal
 
 abbrev pub invariant-loop-index : goal.invariant-loop-index
-invariant-loop-index l = IsGrown (in_order (peer_lines l.ports l.place l.port) 0 (take l.index l.peers)) l.fn.out l.out
+invariant-loop-index l = IsGrown (in_order (peer_lines l.at.ports.now l.at.place l.at.port.now) 0 (take l.index l.peers)) l.fn.out l.out

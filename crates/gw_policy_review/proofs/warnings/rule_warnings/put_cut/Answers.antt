@@ -1,5 +1,6 @@
 use Rattle.std.proofs.Common.{◌≡◌, true, false, sym}
-use Rattle.gw_policy_review.specs.warnings.Warnings.{address_of, is_cut}
+use Rattle.gw_ask_sets.specs.AskText.{address_of}
+use Rattle.gw_policy_review.specs.warnings.Warnings.{is_cut}
 use Rattle.gw_policy_review.proofs.warnings_lemmas.Lines.{nothing_put}
 use Rattle.gw_policy_review.proofs.warnings.rule_warnings.put_cut.Goals as goal
 

@@ -10,7 +10,7 @@ returns c =
     let config = reader.config.now in
     let found = c.in_ok-found.found in
     let same : c.object_list.result ≡ object_list config.device = c.object_list.ensures ∙ ap object_list c.device.ensures.device in
-    listed config reader.number reader.object.now reader.network c.args.left found.left found.outcome c.args.out.now.items
+    listed config reader.at.number reader.at.object.now reader.network c.args.left found.left found.outcome c.args.out.now.items
     c.put_list_line.new.out.items
     (subst (λ (p : Point). IsRead config reader.network p c.args.left found.left found.outcome) same c.in_ok-found.ensures)
     c.in_ok-put_list_line.ensures

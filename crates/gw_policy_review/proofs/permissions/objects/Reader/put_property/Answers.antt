@@ -9,8 +9,8 @@ pub returns : goal.returns
 returns c =
     let reader = c.args.self.now in
     let found = c.in_ok-found.found in
-    let same : c.point_of.result ≡ point_of reader.object.now (only c.args.property) = c.point_of.ensures ∙ ap (point_of reader.object.now) c.only.ensures in
-    one_property reader.config.now reader.number reader.object.now reader.network c.args.property c.args.name.now c.args.left found.left found.outcome
+    let same : c.point_of.result ≡ point_of reader.at.object.now (only c.args.property.number) = c.point_of.ensures ∙ ap (point_of reader.at.object.now) c.only.ensures in
+    one_property reader.config.now reader.at.number reader.at.object.now reader.network c.args.property.number c.args.property.name.now c.args.left found.left found.outcome
     c.args.out.now.items c.put_property_line.new.out.items
     (subst (λ (p : Point). IsRead reader.config.now reader.network p c.args.left found.left found.outcome) same c.in_ok-found.ensures)
     c.in_ok-put_property_line.ensures
