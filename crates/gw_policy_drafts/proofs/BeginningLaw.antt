@@ -1,5 +1,5 @@
 -- The parts of a site, one after the other.
-use Rattle.std.proofs.Common.{◌≡◌, ◌∙◌, sym, ap, refl, ℕ, ◌+◌, ◌*◌, ◌%◌, ◌^◌, ◌<◌, ◌≤◌, true, nat_le, List, [], ◌∷◌, ◌++◌, Option, Some, None, length, take, drop, get_or, arith, add-one, append_assoc}
+use Rattle.std.proofs.Common.{◌≡◌, ◌∙◌, sym, ap, refl, ℕ, ◌+◌, ◌*◌, ◌%◌, ◌^◌, ◌<◌, ◌≤◌, true, nat_le, List, [], ◌∷◌, ◌++◌, None, length, take, drop, get_or, arith, add-one, append_assoc}
 use Rattle.std.proofs.Math.Seq.{take-suc}
 use Rattle.std.proofs.lemmas.Bool.{agree_below_at, leb-true}
 use Rattle.std.proofs.lemmas.List.{drop_more, length-take}
@@ -7,7 +7,6 @@ use Rattle.gw_configuration.specs.declared.port.Port.{Port}
 use Rattle.gw_policy_drafts.specs.beginning.Flaws.{flaw_of, wrong_from, wrong_or}
 use Rattle.gw_policy_drafts.specs.beginning.Ports.{port_of, ports_from}
 use Rattle.gw_policy_drafts.specs.beginning.Site.{Site}
-use Rattle.gw_policy_drafts.specs.declared.beginning.fault.WrongWord.{WrongWord}
 use Rattle.gw_policy_drafts.specs.declared.beginning.part.Part.{Part}
 use Rattle.gw_policy_drafts.specs.declared.beginning.part.SiteOption.{SiteOption}
 

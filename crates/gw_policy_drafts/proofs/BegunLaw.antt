@@ -31,7 +31,7 @@ use Rattle.gw_rules.specs.declared.rule.Rule.{Rule}
 use Rattle.gw_policy_drafts.specs.beginning.Begun.{IsBegun, do_hold, is_closed, is_operator, is_operators}
 use Rattle.gw_policy_drafts.specs.beginning.Ports.{ports_of, routes_of}
 use Rattle.gw_policy_drafts.specs.beginning.Site.{Site}
-use Rattle.gw_policy_drafts.specs.internal.Safe.{are_safe, is_one, is_safe, is_safe_for, may_allow, names_operators, spares}
+use Rattle.gw_policy_drafts.specs.internal.Safe.{are_safe, is_one, is_safe, is_safe_for, may_allow}
 use Rattle.gw_policy_drafts.specs.declared.beginning.part.Part.{Part}
 
 apart : true ≡ false → ⊥

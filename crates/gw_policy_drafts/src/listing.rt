@@ -233,8 +233,8 @@ struct Said<'a> {
     audit: bool,
 }
 
-/// The note at a place, or nothing.
-fn note_at(notes: &[Text], place: usize) -> &str
+/// The note of the rule at a place, from 0, or nothing.
+pub fn note_at(notes: &[Text], place: usize) -> &str
     ensures { result.now ≡ note_at notes.now place }
 {
     match notes.get(place) {

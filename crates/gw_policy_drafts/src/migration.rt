@@ -13,4 +13,5 @@ pub(crate) use lines::put_quoted;
 pub use migration::migrate;
 pub(crate) use objects::put_device;
 pub(crate) use ports::{put_peers, put_port_head, put_ports, put_routes};
-pub use rules::{put_field, put_field_items, put_operation, put_station};
+pub use rules::{put_field, put_field_items, put_operation, put_quoted_station};
+pub(crate) use subnets::size_of;

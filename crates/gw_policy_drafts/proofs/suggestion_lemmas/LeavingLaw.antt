@@ -1,12 +1,11 @@
 -- What is left out of rules that are suggested.
-use Rattle.std.proofs.Common.{◌≡◌, ◌∙◌, sym, ap, refl, subst, ℕ, suc, zero, Bool, true, false, ◌&&◌, ◌||◌, List, [], ◌∷◌, ◌++◌, Option, Some, None, nat_le, length, take, drop, arith, ◌+◌, ◌-◌, ◌<◌, ◌≤◌, map}
+use Rattle.std.proofs.Common.{◌≡◌, ◌∙◌, sym, ap, refl, subst, ℕ, suc, zero, Bool, true, false, ◌&&◌, ◌||◌, List, [], ◌∷◌, ◌++◌, Some, None, nat_le, length, arith, ◌+◌, ◌-◌, ◌<◌}
 use Rattle.std.specs.Prelude.{if◌then◌else◌, is_some, slice_get, slice_index_or}
 use Rattle.std.specs.List.{AllByRecursion, list_all, list_any, remove}
-use Rattle.std.specs.Option.{option_and_then}
 use Rattle.std.proofs.lemmas.Bool.{and_parts, and_from, leb-true}
 use Rattle.std.proofs.lemmas.List.Folds.{list_all-append, list_any-append}
 use Rattle.std.proofs.lemmas.Option.{slice_get_read}
-use Rattle.gw_ask_sets.specs.assertions.Judging.{AreEachJudged, AreJudged, IsBroken, IsJudged}
+use Rattle.gw_ask_sets.specs.assertions.Judging.{AreEachJudged, AreJudged, IsJudged}
 use Rattle.gw_ask_sets.specs.declared.assertions.judging.Judged.{Judged}
 use Rattle.gw_ask_sets.specs.declared.assertions.judging.Judged.TheVariants.{Holds, Broken, Empty, Unknown}
 use Rattle.gw_configuration.specs.Configuration.{Configuration}
@@ -15,7 +14,7 @@ use Rattle.gw_rules.specs.Ask.{Ask}
 use Rattle.gw_rules.specs.Rule.{matches}
 use Rattle.gw_rules.specs.declared.rule.Rule.{Rule}
 use Rattle.gw_policy_drafts.specs.suggestion.Laws.{LeavesNoneOut}
-use Rattle.gw_policy_drafts.specs.suggestion.Suggestion.{BreaksNone, Breaks, HasInFront, IsBreaking, IsFound, IsLeftOut, IsOutcome, IsSuggestion, StaysSuggested, broken_by, left_of, matched, matched_own, place_in}
+use Rattle.gw_policy_drafts.specs.suggestion.Suggestion.{BreaksNone, Breaks, HasInFront, IsBreaking, IsFound, IsLeftOut, StaysSuggested, broken_by, left_of, matched}
 use Rattle.gw_policy_drafts.specs.suggestion.Text.{rules_of}
 use Rattle.gw_policy_drafts.specs.declared.suggestion.leaving.Breaking.{Breaking}
 use Rattle.gw_policy_drafts.specs.declared.suggestion.leaving.Left.{Left}

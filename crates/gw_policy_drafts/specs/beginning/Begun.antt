@@ -1,6 +1,6 @@
 -- What a configuration to begin with is, and what is answered to the words of a call.
-use Rattle.std.specs.Prelude.{◌≡◌, ◌⊎◌, ⊤, ◌<◌, ℕ, ◌==◌, Bool, true, false, ◌&&◌, ◌||◌, not, List, length}
-use Rattle.std.specs.Prelude.{Option, Some, None, Result, Ok, Err}
+use Rattle.std.specs.Prelude.{◌≡◌, ◌⊎◌, ⊤, ◌<◌, ℕ, ◌==◌, Bool, true, false, ◌&&◌, not, List, length}
+use Rattle.std.specs.Prelude.{Some, None, Ok}
 use Rattle.std.specs.List.{list_all, list_any}
 use Rattle.std.specs.Option.{option_map_or}
 use Rattle.gw_addr.specs.Address.{big_endian, octets_of}
@@ -23,7 +23,6 @@ use Rattle.gw_policy_drafts.specs.beginning.Site.{Says, Site, SiteText, words_in
 use Rattle.gw_policy_drafts.specs.declared.beginning.fault.BeginFault.{BeginFault}
 use Rattle.gw_policy_drafts.specs.declared.beginning.fault.BeginFault.TheVariants as fault
 use Rattle.gw_policy_drafts.specs.declared.beginning.fault.Flaw.TheVariants as flaw
-use Rattle.gw_policy_drafts.specs.declared.beginning.fault.WrongWord.{WrongWord}
 use Rattle.gw_policy_drafts.specs.declared.beginning.part.Part.{Part}
 
 -- ---- the configuration

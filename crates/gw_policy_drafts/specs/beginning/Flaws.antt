@@ -1,11 +1,11 @@
 -- What is wrong with what the words of a call say, and which word is the first that is wrong.
-use Rattle.std.specs.Prelude.{◌≡◌, ◌⊎◌, ⊤, ℕ, ◌+◌, ◌-◌, ◌==◌, Bool, true, false, ◌&&◌, ◌||◌, not, nat_le, if◌then◌else◌, List, [], ◌∷◌, ◌++◌, length}
-use Rattle.std.specs.Prelude.{codes, filter, find, is_none, is_some, Option, Some, None, Result, Ok, Err, slice_get}
+use Rattle.std.specs.Prelude.{ℕ, ◌-◌, ◌==◌, Bool, false, ◌&&◌, ◌||◌, not, nat_le, List, [], ◌∷◌, ◌++◌, length}
+use Rattle.std.specs.Prelude.{codes, filter, find, is_none, is_some, Option, Some, None, slice_get}
 use Rattle.std.specs.List.{list_any}
 use Rattle.std.specs.Option.{option_map, option_map_or}
 use Rattle.gw_addr.specs.declared.TheConstants.{MAX_PORTS}
 use Rattle.gw_policy_drafts.specs.beginning.Part.{has_station, host_of, option_name, overlaps}
-use Rattle.gw_policy_drafts.specs.beginning.Site.{Says, Site, SiteText, parts_in, words_in}
+use Rattle.gw_policy_drafts.specs.beginning.Site.{Site, SiteText, parts_in, words_in}
 use Rattle.gw_policy_drafts.specs.declared.beginning.fault.Flaw.{Flaw}
 use Rattle.gw_policy_drafts.specs.declared.beginning.fault.Flaw.TheVariants as flaw
 use Rattle.gw_policy_drafts.specs.declared.beginning.fault.WrongWord.{WrongWord}

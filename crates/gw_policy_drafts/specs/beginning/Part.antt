@@ -1,10 +1,11 @@
 -- What a word of a call says of a site, and how it is written.
-use Rattle.std.specs.Prelude.{ℕ, ◌+◌, ◌-◌, ◌%◌, ◌^◌, ◌==◌, Bool, true, false, ◌&&◌, nat_le, nat_lt, if◌then◌else◌, List, [], ◌∷◌, ◌++◌, codes, decimal, Option, Some, None}
+use Rattle.std.specs.Prelude.{ℕ, ◌+◌, ◌-◌, ◌%◌, Bool, true, false, ◌&&◌, nat_le, nat_lt, if◌then◌else◌, List, [], ◌++◌, codes, decimal, Option, Some, None}
 use Rattle.std.specs.Int.{from_be_bytes, w32}
 use Rattle.gw_addr.specs.Text.{four_text}
 use Rattle.gw_policy_drafts.specs.declared.beginning.part.Part.{Part}
 use Rattle.gw_policy_drafts.specs.declared.beginning.part.SiteOption.{SiteOption}
 use Rattle.gw_policy_drafts.specs.declared.beginning.part.SiteOption.TheVariants as option
+use Rattle.gw_policy_drafts.specs.migration.Items.{size_of}
 
 -- ---- the options
 
@@ -49,10 +50,6 @@ word_of option part =
 -- the address as a number
 abbrev pub host_of : Part → ℕ
 host_of part = from_be_bytes w32 part.ip
-
--- how many addresses have the same first bits, so many
-abbrev pub size_of : ℕ → ℕ
-size_of prefix = 2 ^ (32 - prefix)
 
 -- the first address of the subnet, and the last, to which its broadcasts go
 abbrev pub first_of : Part → ℕ

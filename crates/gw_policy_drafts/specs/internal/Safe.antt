@@ -1,5 +1,5 @@
 -- Rules of which each allows no more than a configuration to begin with may.
-use Rattle.std.specs.Prelude.{ℕ, ◌==◌, Bool, true, false, ◌&&◌, ◌||◌, not, List, length, Some}
+use Rattle.std.specs.Prelude.{◌==◌, Bool, ◌&&◌, ◌||◌, not, List, length, Some}
 use Rattle.std.specs.List.{list_all}
 use Rattle.gw_configuration.specs.declared.assertion.TheConstants.{WRITING_SERVICES}
 use Rattle.gw_rules.specs.Operation.{operation_number}

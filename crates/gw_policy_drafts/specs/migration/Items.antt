@@ -1,12 +1,11 @@
 -- How format 3 writes the items for a rule's field.
 use Rattle.std.specs.Prelude.{ℕ, ◌+◌, ◌-◌, ◌/◌, ◌%◌, ◌^◌, ◌==◌, Bool, ◌&&◌, ◌||◌, nat_le, nat_lt, if◌then◌else◌, List, [], ◌∷◌, ◌++◌}
-use Rattle.std.specs.Prelude.{length, drop, map, codes, decimal, find, Option, Some, None}
+use Rattle.std.specs.Prelude.{length, drop, codes, decimal, find, Option, None}
 use Rattle.std.specs.Int.{w64, to_be_bytes}
 use Rattle.std.specs.List.{flat_map}
 use Rattle.std.specs.Option.{option_map_or}
-use Rattle.gw_addr.specs.Address.{address_in, text_of}
 use Rattle.gw_addr.specs.Text.{four_text}
-use Rattle.gw_audit.specs.Line.{key_text}
+use Rattle.gw_ask_sets.specs.AskText.{station_text}
 use Rattle.gw_codecs.specs.names.Names.{object_type_name, property_name, service_name}
 use Rattle.gw_rules.specs.Field.{field_key}
 use Rattle.gw_rules.specs.Operation.{operation_name, operation_number}
@@ -14,7 +13,6 @@ use Rattle.gw_rules.specs.declared.field.FieldName.{FieldName}
 use Rattle.gw_rules.specs.declared.field.FieldName.TheVariants.{Operation, SourceKey, Service, ObjectType, Property, Sender, Station}
 use Rattle.gw_rules.specs.declared.operation.TheConstants.Operation.{ALL}
 use Rattle.gw_rules.specs.declared.range.Range.{Range}
-use Rattle.gw_policy_drafts.specs.declared.migration.subnets.Size.{Size}
 
 -- ---- texts
 
@@ -34,28 +32,32 @@ quoted text = 34 ∷ (flat_map quoted_octet text ++ 34 ∷ [])
 
 -- ---- subnets
 
--- the sizes of subnets of several addresses, the smallest first
-abbrev pub sizes : List Size
-sizes = map (λ prefix. record { prefix = prefix; last = 2 ^ (32 - prefix) - 1 }) (
+-- the lengths of the prefixes of subnets of several addresses, the smallest subnet first
+abbrev pub prefixes : List ℕ
+prefixes =
     31 ∷ 30 ∷ 29 ∷ 28 ∷ 27 ∷ 26 ∷ 25 ∷ 24 ∷ 23 ∷ 22 ∷ 21 ∷ 20 ∷ 19 ∷ 18 ∷ 17 ∷ 16 ∷ 15 ∷ 14 ∷ 13 ∷ 12 ∷ 11 ∷ 10
-    ∷ 9 ∷ 8 ∷ 7 ∷ 6 ∷ 5 ∷ 4 ∷ 3 ∷ 2 ∷ 1 ∷ 0 ∷ [])
+    ∷ 9 ∷ 8 ∷ 7 ∷ 6 ∷ 5 ∷ 4 ∷ 3 ∷ 2 ∷ 1 ∷ 0 ∷ []
 
--- the addresses from one to another are a subnet of a size
-abbrev pub is_whole : ℕ → ℕ → Size → Bool
-is_whole first last size = (first % (size.last + 1) == 0) && (nat_le first last && (last - first == size.last))
+-- how many addresses have the same first bits, so many
+abbrev pub size_of : ℕ → ℕ
+size_of prefix = 2 ^ (32 - prefix)
 
--- a subnet of a size has an address, and the second as its last one: the one to which broadcasts go (Annex J.1.2)
-abbrev pub is_ended : ℕ → ℕ → Size → Bool
-is_ended address broadcast size =
-    (address / (size.last + 1) == broadcast / (size.last + 1)) && (broadcast % (size.last + 1) == size.last)
+-- the addresses from one to another are a subnet of so many first bits
+abbrev pub is_whole : ℕ → ℕ → ℕ → Bool
+is_whole first last prefix = (first % size_of prefix == 0) && (nat_le first last && (last - first == size_of prefix - 1))
+
+-- the subnet of so many first bits that has an address ends with another one: that to which broadcasts go (Annex J.1.2)
+abbrev pub is_ended : ℕ → ℕ → ℕ → Bool
+is_ended address broadcast prefix =
+    (address / size_of prefix == broadcast / size_of prefix) && (broadcast % size_of prefix == size_of prefix - 1)
 
 -- an IPv4 address by its number, `a.b.c.d`
 abbrev pub host_text : ℕ → List ℕ
 host_text host = four_text (drop 4 (to_be_bytes w64 host))
 
 -- the subnet of an address, `a.b.c.d/n`
-abbrev pub subnet_text : ℕ → Size → List ℕ
-subnet_text host size = host_text (host - host % (size.last + 1)) ++ (47 ∷ decimal size.prefix)
+abbrev pub subnet_text : ℕ → ℕ → List ℕ
+subnet_text host prefix = host_text (host - host % size_of prefix) ++ (47 ∷ decimal prefix)
 
 -- ---- the items
 
@@ -79,12 +81,8 @@ abbrev pub numbers_text : ℕ → ℕ → List ℕ
 numbers_text low high = 91 ∷ (decimal low ++ (44 ∷ 32 ∷ (decimal high ++ 93 ∷ [])))
 
 -- the station of a key: one of six octets with its UDP port, another by its octets, `mac:07`
-unfoldable pub station_words : ℕ → List ℕ
-station_words key =
-    if nat_lt key 281474976710656 then text_of (address_in (drop 2 (to_be_bytes w64 key))) else codes "mac:" ++ key_text key
-
-abbrev pub station_text : ℕ → List ℕ
-station_text key = 34 ∷ (station_words key ++ 34 ∷ [])
+unfoldable pub quoted_station : ℕ → List ℕ
+quoted_station key = 34 ∷ (station_text key ++ 34 ∷ [])
 
 abbrev pub quoted_host : ℕ → List ℕ
 quoted_host host = 34 ∷ (host_text host ++ 34 ∷ [])
@@ -92,17 +90,17 @@ quoted_host host = 34 ∷ (host_text host ++ 34 ∷ [])
 abbrev pub two_hosts : ℕ → ℕ → List ℕ
 two_hosts first last = 91 ∷ (quoted_host first ++ (44 ∷ 32 ∷ (quoted_host last ++ 93 ∷ [])))
 
-abbrev pub quoted_subnet : ℕ → Size → List ℕ
-quoted_subnet first size = 34 ∷ (subnet_text first size ++ 34 ∷ [])
+abbrev pub quoted_subnet : ℕ → ℕ → List ℕ
+quoted_subnet first prefix = 34 ∷ (subnet_text first prefix ++ 34 ∷ [])
 
 -- the IPv4 addresses from one to another: one, a subnet, or both ends
 abbrev pub hosts_text : ℕ → ℕ → List ℕ
 hosts_text first last =
     if first == last then quoted_host first
-    else option_map_or (quoted_subnet first) (find (is_whole first last) sizes) (two_hosts first last)
+    else option_map_or (quoted_subnet first) (find (is_whole first last) prefixes) (two_hosts first last)
 
 abbrev pub two_stations : ℕ → ℕ → List ℕ
-two_stations low high = 91 ∷ (station_text low ++ (44 ∷ 32 ∷ (station_text high ++ 93 ∷ [])))
+two_stations low high = 91 ∷ (quoted_station low ++ (44 ∷ 32 ∷ (quoted_station high ++ 93 ∷ [])))
 
 -- stations of six octets, of every UDP port
 abbrev pub are_hosts : ℕ → ℕ → Bool
@@ -111,7 +109,7 @@ are_hosts low high = nat_lt high 281474976710656 && ((low % 65536 == 0) && (high
 -- stations by their keys, those of six octets and every UDP port as IPv4 addresses
 abbrev pub addresses_text : ℕ → ℕ → List ℕ
 addresses_text low high =
-    if low == high then station_text low
+    if low == high then quoted_station low
     else if are_hosts low high then hosts_text (low / 65536) (high / 65536)
     else two_stations low high
 

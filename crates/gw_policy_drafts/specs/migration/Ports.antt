@@ -9,8 +9,7 @@ use Rattle.gw_addr.specs.declared.bip.BipAddr.{BipAddr}
 use Rattle.gw_addr.specs.declared.entry.BdtEntry.{BdtEntry}
 use Rattle.gw_configuration.specs.Configuration.{Configuration}
 use Rattle.gw_configuration.specs.declared.port.Port.{Port}
-use Rattle.gw_policy_drafts.specs.migration.Items.{is_ended, sizes, subnet_text}
-use Rattle.gw_policy_drafts.specs.declared.migration.subnets.Size.{Size}
+use Rattle.gw_policy_drafts.specs.migration.Items.{is_ended, prefixes, subnet_text}
 
 -- the number of an IPv4 address
 abbrev pub host_of : BipAddr → ℕ
@@ -18,15 +17,15 @@ host_of address = from_be_bytes w32 address.ip
 
 -- The stations that are proposed for a port: the smallest subnet that has its address, and that ends with the one to which
 -- its broadcasts go (Annex J.1.2).
-unfoldable pub subnet_line : ℕ → Size → List ℕ
-subnet_line host size = codes "# stations = [\"" ++ (subnet_text host size ++ codes "\"]\n")
+unfoldable pub subnet_line : ℕ → ℕ → List ℕ
+subnet_line host prefix = codes "# stations = [\"" ++ (subnet_text host prefix ++ codes "\"]\n")
 
 unfoldable pub no_subnet_line : List ℕ
 no_subnet_line = codes "# No subnet ends with that broadcast address.\n"
 
 abbrev pub stations_of : (host broadcast : ℕ) → List ℕ
 stations_of host broadcast =
-    option_map_or (subnet_line host) (find (is_ended host broadcast) sizes) no_subnet_line
+    option_map_or (subnet_line host) (find (is_ended host broadcast) prefixes) no_subnet_line
 
 abbrev pub stations_line : Port → List ℕ
 stations_line port = stations_of (host_of port.address) (host_of port.broadcast)

@@ -1,5 +1,5 @@
 -- The text of the rules that are suggested: a table for each, with what its comments say, and what is said after them.
-use Rattle.std.specs.Prelude.{◌≡◌, ℕ, ◌+◌, ◌-◌, ◌==◌, Bool, true, false, ◌&&◌, ◌||◌, not, min, if◌then◌else◌, List, [], ◌∷◌, ◌++◌, length, map}
+use Rattle.std.specs.Prelude.{◌≡◌, ℕ, ◌+◌, ◌==◌, Bool, false, ◌&&◌, ◌||◌, not, min, if◌then◌else◌, List, [], ◌∷◌, ◌++◌, length, map}
 use Rattle.std.specs.Prelude.{codes, decimal, slice_get}
 use Rattle.std.specs.List.{flat_map, fold, list_all, list_any}
 use Rattle.std.specs.Option.{option_map_or}
@@ -19,7 +19,7 @@ use Rattle.gw_rules.specs.declared.operation.Operation.{Operation}
 use Rattle.gw_rules.specs.declared.operation.Operation.TheVariants.{Cast, Route, Delete, Read, Write}
 use Rattle.gw_rules.specs.declared.range.Range.{Range}
 use Rattle.gw_rules.specs.declared.rule.Rule.{Rule}
-use Rattle.gw_policy_drafts.specs.migration.Items.{field_line, field_text, operation_text, station_text}
+use Rattle.gw_policy_drafts.specs.migration.Items.{field_line, field_text, operation_text, quoted_station}
 use Rattle.gw_policy_drafts.specs.suggestion.Given.{is_open}
 use Rattle.gw_policy_drafts.specs.declared.suggestion.given.Weighted.{Weighted}
 use Rattle.gw_policy_drafts.specs.declared.suggestion.leaving.Left.{Left}
@@ -102,9 +102,9 @@ asks_line rule asks = codes "# " ++ (counted_text (total (matches rule) asks) (c
 -- a value of a field as formats 1 and 2 write it
 abbrev pub plain_value : FieldName → ℕ → List ℕ
 plain_value fields.Operation number = operation_text number
-plain_value fields.SourceKey number = station_text number
-plain_value fields.Sender number = station_text number
-plain_value fields.Station number = station_text number
+plain_value fields.SourceKey number = quoted_station number
+plain_value fields.Sender number = quoted_station number
+plain_value fields.Station number = quoted_station number
 plain_value _ number = decimal number
 
 unfoldable pub plain_item : FieldName → Range → List ℕ

@@ -2,8 +2,9 @@
 
 ghost use Rattle.std.specs.Prelude.{◌≡◌, ◌≤◌, ◌<◌, ◌^◌, IfOk, IfSome};
 ghost use Rattle.gw_addr.specs.Appending.{IsAppended};
-ghost use Rattle.gw_policy_drafts.specs.beginning.Part.{first_of, has_prefix, has_station, host_of, is_numbered, last_of, number_text, option_name, overlaps, prefix_text, size_of, udp_text, word_of};
+ghost use Rattle.gw_policy_drafts.specs.beginning.Part.{first_of, has_prefix, has_station, host_of, is_numbered, last_of, number_text, option_name, overlaps, prefix_text, udp_text, word_of};
 
+use crate::migration::size_of;
 use gw_addr::{Mask, put_decimal, put_octet};
 use std::alloc::{AllocError, Global};
 
@@ -189,15 +190,6 @@ pub(crate) fn part_in(
     } else {
         None
     })
-}
-
-/// How many addresses have the same first bits, so many.
-fn size_of(prefix: u8) -> u64
-    ensures size { result ≡ size_of prefix }
-    ensures some { 0 < result }
-    ensures most { result ≤ 2 ^ 32 }
-{
-    1u64 << 32u8.saturating_sub(prefix)
 }
 
 impl Part {

@@ -2,7 +2,7 @@
 ghost use Rattle.std.specs.Prelude.{◌≡◌, ◌++◌, OnOk};
 ghost use Rattle.gw_policy_drafts.specs.migration.Ports.{no_subnet_line, stations_line, stations_of, subnet_line};
 
-use crate::migration::subnets::{Size, host_of, put_subnet, shared_size};
+use crate::migration::subnets::{host_of, put_subnet, shared_prefix};
 use gw_addr::{NetNum, put_decimal};
 use gw_configuration::{Config, Port, Route};
 use gw_rules::{FieldName, Range, Rule};
@@ -54,18 +54,18 @@ pub(crate) fn put_stations_note(out: &mut Vec<u8>, port: &Port) -> Result<(), Al
 fn put_stations_of(out: &mut Vec<u8>, host: u64, broadcast: u64) -> Result<(), AllocError>
     ensures { OnOk result (out.new.items ≡ out.old.items ++ stations_of host broadcast) }
 {
-    match shared_size(host, broadcast) {
-        Some(size) => put_stations(out, host, size),
+    match shared_prefix(host, broadcast) {
+        Some(prefix) => put_stations(out, host, prefix),
         None => put_no_subnet(out),
     }
 }
 
 #[tactic(auto, unfolding(crate::specs::migration::Ports::subnet_line))]
-fn put_stations(out: &mut Vec<u8>, host: u64, size: Size) -> Result<(), AllocError>
-    ensures { OnOk result (out.new.items ≡ out.old.items ++ subnet_line host size) }
+fn put_stations(out: &mut Vec<u8>, host: u64, prefix: u8) -> Result<(), AllocError>
+    ensures { OnOk result (out.new.items ≡ out.old.items ++ subnet_line host prefix) }
 {
     out.extend_from_slice(b"# stations = [\"")?;
-    put_subnet(out, host, size)?;
+    put_subnet(out, host, prefix)?;
     out.extend_from_slice(b"\"]\n")
 }
 

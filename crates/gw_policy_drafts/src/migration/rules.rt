@@ -1,22 +1,19 @@
 //! The rules of a configuration, as they are written in format 3.
-ghost use Rattle.std.specs.Prelude.{◌≡◌, ◌==◌, ◌++◌, drop, find, option_map, OnOk};
-ghost use Rattle.std.specs.Int.{w64, to_be_bytes};
+ghost use Rattle.std.specs.Prelude.{◌≡◌, ◌++◌, option_map, OnOk};
 ghost use Rattle.std.specs.List.{flat_map};
-ghost use Rattle.gw_addr.specs.Address.{address_in, text_of};
-ghost use Rattle.gw_rules.specs.Operation.{operation_number};
-ghost use Rattle.gw_rules.specs.declared.operation.TheConstants.Operation.{ALL};
 ghost use Rattle.gw_policy_drafts.specs.migration.Items.{addresses_text, are_hosts, field_line, field_text, hosts_text, item_text, items_text};
 ghost use Rattle.gw_policy_drafts.specs.migration.Items.{name_of, next_item, numbers_text, operation_text, plain_text, quoted_host};
-ghost use Rattle.gw_policy_drafts.specs.migration.Items.{quoted_subnet, station_text, station_words, two_hosts, two_stations, value_text};
+ghost use Rattle.gw_policy_drafts.specs.migration.Items.{quoted_station, quoted_subnet, two_hosts, two_stations, value_text};
 
 use crate::migration::advice::put_rule_note;
 use crate::migration::lines::{put_quoted, put_text};
-use crate::migration::subnets::{Size, put_host, put_subnet, whole_size};
-use gw_addr::{BipAddr, put_decimal};
-use gw_audit::{KEYS, put_key};
+use crate::migration::subnets::{put_host, put_subnet, whole_prefix};
+use gw_addr::put_decimal;
+use gw_ask_sets::ask_text::put_station;
+use gw_audit::{KEYS, operation_named};
 use gw_codecs::names::{object_type_name, property_name, service_name};
 use gw_configuration::Config;
-use gw_rules::{FieldName, Operation, Range, Rule};
+use gw_rules::{FieldName, Range, Rule};
 use std::alloc::AllocError;
 
 /// How many UDP ports there are.
@@ -129,20 +126,10 @@ fn put_plain(out: &mut Vec<u8>, field: FieldName, low: u64, high: u64) -> Result
 pub fn put_operation(out: &mut Vec<u8>, number: u64) -> Result<(), AllocError>
     ensures { OnOk result (out.new.items ≡ out.old.items ++ operation_text number) }
 {
-    match operation_of(number) {
+    match operation_named(number, true) {
         Some(operation) => put_quoted(out, operation.name()),
         None => put_decimal(out, number),
     }
-}
-
-/// The operation of a number.
-fn operation_of(number: u64) -> Option<Operation>
-    ensures { result ≡ find (λ operation. operation_number operation == number) ALL }
-{
-    Operation::ALL
-        .iter()
-        .copied()
-        .find(|operation| operation.number() == number)
 }
 
 fn put_value(out: &mut Vec<u8>, field: FieldName, number: u64) -> Result<(), AllocError>
@@ -182,7 +169,7 @@ fn put_addresses(out: &mut Vec<u8>, low: u64, high: u64) -> Result<(), AllocErro
     ensures { OnOk result (out.new.items ≡ out.old.items ++ addresses_text low high) }
 {
     if low == high {
-        put_station(out, low)
+        put_quoted_station(out, low)
     } else if are_hosts(low, high) {
         put_hosts(out, low / PORTS, high / PORTS)
     } else {
@@ -201,41 +188,23 @@ fn put_two_stations(out: &mut Vec<u8>, low: u64, high: u64) -> Result<(), AllocE
     ensures { OnOk result (out.new.items ≡ out.old.items ++ two_stations low high) }
 {
     out.push(b'[')?;
-    put_station(out, low)?;
+    put_quoted_station(out, low)?;
     out.extend_from_slice(b", ")?;
-    put_station(out, high)?;
+    put_quoted_station(out, high)?;
     out.push(b']')?;
     Ok(())
 }
 
 /// Appends the station with this key, in quotes: its address and its UDP port, or its octets if it hasn't six of them. An
 /// `Err` if there is no memory.
-pub fn put_station(out: &mut Vec<u8>, key: u64) -> Result<(), AllocError>
-    ensures { OnOk result (out.new.items ≡ out.old.items ++ station_text key) }
+#[tactic(auto, unfolding(crate::specs::migration::Items::quoted_station))]
+pub fn put_quoted_station(out: &mut Vec<u8>, key: u64) -> Result<(), AllocError>
+    ensures { OnOk result (out.new.items ≡ out.old.items ++ quoted_station key) }
 {
     out.push(b'"')?;
-    put_station_words(out, key)?;
+    put_station(out, key)?;
     out.push(b'"')?;
     Ok(())
-}
-
-#[tactic(auto, unfolding(crate::specs::migration::Items::station_words))]
-fn put_station_words(out: &mut Vec<u8>, key: u64) -> Result<(), AllocError>
-    ensures { OnOk result (out.new.items ≡ out.old.items ++ station_words key) }
-{
-    if key < KEYS {
-        return put_address(out, key);
-    }
-    out.extend_from_slice(b"mac:")?;
-    put_key(out, key)
-}
-
-/// Appends the address of the station of six octets with this key.
-fn put_address(out: &mut Vec<u8>, key: u64) -> Result<(), AllocError>
-    ensures { OnOk result (out.new.items ≡ out.old.items ++ text_of (address_in (drop 2 (to_be_bytes w64 key)))) }
-{
-    let [_, _, a, b, c, d, e, f] = key.to_be_bytes();
-    BipAddr::from_octets(&[a, b, c, d, e, f]).put_text(out)
 }
 
 /// Appends the IPv4 addresses from one to another.
@@ -245,17 +214,17 @@ fn put_hosts(out: &mut Vec<u8>, first: u64, last: u64) -> Result<(), AllocError>
     if first == last {
         return put_quoted_host(out, first);
     }
-    match whole_size(first, last) {
-        Some(size) => put_quoted_subnet(out, first, size),
+    match whole_prefix(first, last) {
+        Some(prefix) => put_quoted_subnet(out, first, prefix),
         None => put_two_hosts(out, first, last),
     }
 }
 
-fn put_quoted_subnet(out: &mut Vec<u8>, first: u64, size: Size) -> Result<(), AllocError>
-    ensures { OnOk result (out.new.items ≡ out.old.items ++ quoted_subnet first size) }
+fn put_quoted_subnet(out: &mut Vec<u8>, first: u64, prefix: u8) -> Result<(), AllocError>
+    ensures { OnOk result (out.new.items ≡ out.old.items ++ quoted_subnet first prefix) }
 {
     out.push(b'"')?;
-    put_subnet(out, first, size)?;
+    put_subnet(out, first, prefix)?;
     out.push(b'"')?;
     Ok(())
 }

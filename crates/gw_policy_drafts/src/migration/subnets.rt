@@ -1,188 +1,62 @@
 //! Subnets of the IPv4 addresses, as they are written: `a.b.c.d/n`.
 
-ghost use Rattle.std.specs.Prelude.{◌≡◌, ◌++◌, ◌<◌, ◌^◌, find, OnOk};
-ghost use Rattle.gw_policy_drafts.specs.migration.Items.{host_text, is_ended, is_whole, sizes, subnet_text};
+ghost use Rattle.std.specs.Prelude.{◌≡◌, ◌++◌, ◌<◌, ◌≤◌, ◌^◌, find, OnOk};
+ghost use Rattle.gw_policy_drafts.specs.migration.Items.{host_text, is_ended, is_whole, prefixes, size_of, subnet_text};
 ghost use Rattle.gw_policy_drafts.specs.migration.Ports.{host_of};
 
 use gw_addr::{BipAddr, Mask, put_decimal};
 use std::alloc::AllocError;
 
-/// A size of subnets.
-#[derive(Clone, Copy)]
-pub(crate) struct Size {
-    /// The length of the prefix.
-    pub prefix: u8,
-    /// The number of the last address, where the first has 0.
-    pub last: u32,
-}
-
-/// The sizes of subnets of several addresses, the smallest first.
-const SIZES: [Size; 32] = [
-    Size {
-        prefix: 31,
-        last: 1,
-    },
-    Size {
-        prefix: 30,
-        last: 3,
-    },
-    Size {
-        prefix: 29,
-        last: 7,
-    },
-    Size {
-        prefix: 28,
-        last: 15,
-    },
-    Size {
-        prefix: 27,
-        last: 31,
-    },
-    Size {
-        prefix: 26,
-        last: 63,
-    },
-    Size {
-        prefix: 25,
-        last: 127,
-    },
-    Size {
-        prefix: 24,
-        last: 255,
-    },
-    Size {
-        prefix: 23,
-        last: 511,
-    },
-    Size {
-        prefix: 22,
-        last: 1023,
-    },
-    Size {
-        prefix: 21,
-        last: 2047,
-    },
-    Size {
-        prefix: 20,
-        last: 4095,
-    },
-    Size {
-        prefix: 19,
-        last: 8191,
-    },
-    Size {
-        prefix: 18,
-        last: 16383,
-    },
-    Size {
-        prefix: 17,
-        last: 32767,
-    },
-    Size {
-        prefix: 16,
-        last: 65535,
-    },
-    Size {
-        prefix: 15,
-        last: 131071,
-    },
-    Size {
-        prefix: 14,
-        last: 262143,
-    },
-    Size {
-        prefix: 13,
-        last: 524287,
-    },
-    Size {
-        prefix: 12,
-        last: 1048575,
-    },
-    Size {
-        prefix: 11,
-        last: 2097151,
-    },
-    Size {
-        prefix: 10,
-        last: 4194303,
-    },
-    Size {
-        prefix: 9,
-        last: 8388607,
-    },
-    Size {
-        prefix: 8,
-        last: 16777215,
-    },
-    Size {
-        prefix: 7,
-        last: 33554431,
-    },
-    Size {
-        prefix: 6,
-        last: 67108863,
-    },
-    Size {
-        prefix: 5,
-        last: 134217727,
-    },
-    Size {
-        prefix: 4,
-        last: 268435455,
-    },
-    Size {
-        prefix: 3,
-        last: 536870911,
-    },
-    Size {
-        prefix: 2,
-        last: 1073741823,
-    },
-    Size {
-        prefix: 1,
-        last: 2147483647,
-    },
-    Size {
-        prefix: 0,
-        last: 4294967295,
-    },
+/// The lengths of the prefixes of subnets of several addresses, the smallest subnet first.
+const PREFIXES: [u8; 32] = [
+    31, 30, 29, 28, 27, 26, 25, 24, 23, 22, 21, 20, 19, 18, 17, 16, 15, 14, 13, 12, 11, 10, 9, 8,
+    7, 6, 5, 4, 3, 2, 1, 0,
 ];
 
-/// Whether the addresses from one to another are a subnet of a size.
-fn is_whole(first: u64, last: u64, size: Size) -> bool
-    ensures { result ≡ is_whole first last size }
+/// How many addresses have the same first bits, so many.
+pub(crate) fn size_of(prefix: u8) -> u64
+    ensures size { result ≡ size_of prefix }
+    ensures some { 0 < result }
+    ensures most { result ≤ 2 ^ 32 }
 {
-    let host = u64::from(size.last);
-    first % (host + 1) == 0 && first <= last && last - first == host
+    1u64 << 32u8.saturating_sub(prefix)
 }
 
-/// The size of the subnet that the addresses from one to another are, where they are one of several addresses.
-pub(crate) fn whole_size(first: u64, last: u64) -> Option<Size>
-    ensures { result ≡ find (is_whole first last) sizes }
+/// Whether the addresses from one to another are a subnet, whose addresses have the same first bits, so many.
+fn is_whole(first: u64, last: u64, prefix: u8) -> bool
+    ensures { result ≡ is_whole first last prefix }
 {
-    SIZES
+    let size = size_of(prefix);
+    first % size == 0 && first <= last && last - first == size - 1
+}
+
+/// The prefix of the subnet that the addresses from one to another are, where they are one of several addresses.
+pub(crate) fn whole_prefix(first: u64, last: u64) -> Option<u8>
+    ensures { result ≡ find (is_whole first last) prefixes }
+{
+    PREFIXES
         .iter()
         .copied()
-        .find(|size| is_whole(first, last, *size))
+        .find(|prefix| is_whole(first, last, *prefix))
 }
 
-/// Whether a subnet of a size has both addresses, and the second as its last one.
-fn is_ended(address: u64, broadcast: u64, size: Size) -> bool
-    ensures { result ≡ is_ended address broadcast size }
+/// Whether the subnet of so many first bits that has the one address ends with the other one.
+fn is_ended(address: u64, broadcast: u64, prefix: u8) -> bool
+    ensures { result ≡ is_ended address broadcast prefix }
 {
-    let host = u64::from(size.last);
-    address / (host + 1) == broadcast / (host + 1) && broadcast % (host + 1) == host
+    let size = size_of(prefix);
+    address / size == broadcast / size && broadcast % size == size - 1
 }
 
-/// The size of the smallest subnet that an address shares with the one to which its broadcasts go, where the latter is the
+/// The prefix of the smallest subnet that an address shares with the one to which its broadcasts go, where the latter is the
 /// subnet's last (Annex J.1.2). `None` where there is no such subnet, or the two are the same.
-pub(crate) fn shared_size(address: u64, broadcast: u64) -> Option<Size>
-    ensures { result ≡ find (is_ended address broadcast) sizes }
+pub(crate) fn shared_prefix(address: u64, broadcast: u64) -> Option<u8>
+    ensures { result ≡ find (is_ended address broadcast) prefixes }
 {
-    SIZES
+    PREFIXES
         .iter()
         .copied()
-        .find(|size| is_ended(address, broadcast, *size))
+        .find(|prefix| is_ended(address, broadcast, *prefix))
 }
 
 /// The four octets of an address as one number.
@@ -203,12 +77,11 @@ pub(crate) fn put_host(out: &mut Vec<u8>, host: u64) -> Result<(), AllocError>
     four.put_text(out)
 }
 
-/// Appends the subnet of an address, of this size.
-pub(crate) fn put_subnet(out: &mut Vec<u8>, host: u64, size: Size) -> Result<(), AllocError>
-    ensures { OnOk result (out.new.items ≡ out.old.items ++ subnet_text host size) }
+/// Appends the subnet of an address, of so many first bits.
+pub(crate) fn put_subnet(out: &mut Vec<u8>, host: u64, prefix: u8) -> Result<(), AllocError>
+    ensures { OnOk result (out.new.items ≡ out.old.items ++ subnet_text host prefix) }
 {
-    let count = u64::from(size.last) + 1;
-    put_host(out, host - host % count)?;
+    put_host(out, host - host % size_of(prefix))?;
     out.push(b'/')?;
-    put_decimal(out, size.prefix)
+    put_decimal(out, prefix)
 }

@@ -4,7 +4,8 @@ ghost use Rattle.gw_rules.specs.Fields.{with_value};
 ghost use Rattle.gw_rules.specs.Ask.{Ask as SpecAsk};
 ghost use Rattle.gw_policy_drafts.specs.suggestion.Own.{CoverAlike, covered, covers};
 
-use crate::suggestion::group::{Group, listed, with_ranges};
+use crate::suggestion::group::{Group, with_ranges};
+use gw_ask_sets::regions::copy;
 use gw_rules::{FieldName, MAX_RANGES, Range};
 use std::alloc::{AllocError, Global};
 
@@ -18,7 +19,7 @@ fn push_with(
 ) -> Result<(), AllocError>
     ensures { OnOk result (done.new.items ≡ done.old.items ++ with_value field ranges.now group.now ∷ []) }
 {
-    let list = listed(alloc, ranges)?;
+    let list = copy(alloc, ranges)?;
     done.push(with_ranges(alloc, group, field, list)?)?;
     Ok(())
 }

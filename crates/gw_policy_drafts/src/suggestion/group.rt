@@ -5,7 +5,7 @@ ghost use Rattle.gw_rules.specs.Fields.{value_of, with_value};
 ghost use Rattle.gw_rules.specs.Range.{admits};
 ghost use Rattle.gw_policy_drafts.specs.suggestion.Own.{admits_but, covers, covers_but, is_reading, own_ranges, own_service, own_values};
 
-use gw_ask_sets::regions::united;
+use gw_ask_sets::regions::{copy_fields, united};
 use gw_configuration::sameness::are_same;
 use gw_rules::{Ask, FieldName, Fields, Operation, Range, Ranges};
 use std::alloc::{AllocError, Global};
@@ -19,10 +19,7 @@ fn own_values(alloc: Global, value: Option<u64>) -> Result<Ranges, AllocError>
 {
     let mut made = Ranges::new(alloc);
     if let Some(number) = value {
-        made.push(Range {
-            low: number,
-            high: number,
-        })?;
+        made.push(Range::only(number))?;
     }
     Ok(made)
 }
@@ -71,30 +68,6 @@ pub(crate) fn own_ranges(alloc: Global, keeps: bool, ask: &Ask) -> Result<Group,
     Fields::try_from_each(|field| own_ranges_at(alloc, keeps, ask, field))
 }
 
-/// A list of these ranges.
-pub(crate) fn listed(alloc: Global, ranges: &[Range]) -> Result<Ranges, AllocError>
-    ensures { IfOk result (λ list. list ≡ ranges.now) }
-{
-    let mut list = Ranges::new(alloc);
-    for range in ranges {
-        list.push(*range)?;
-    }
-    Ok(list)
-}
-
-fn copy_ranges(alloc: Global, ranges: &Ranges) -> Result<Ranges, AllocError>
-    ensures { IfOk result (λ copied. copied ≡ ranges.now) }
-{
-    listed(alloc, ranges.as_slice())
-}
-
-/// The same ranges once more.
-pub(crate) fn copy(alloc: Global, group: &Group) -> Result<Group, AllocError>
-    ensures { IfOk result (λ copied. copied ≡ group.now) }
-{
-    Fields::try_from_each(|field| copy_ranges(alloc, group.get(field)))
-}
-
 /// The same with other ranges for a field.
 pub(crate) fn with_ranges(
     alloc: Global,
@@ -104,7 +77,7 @@ pub(crate) fn with_ranges(
 ) -> Result<Group, AllocError>
     ensures { IfOk result (λ made. made ≡ with_value field ranges group.now) }
 {
-    let mut made = copy(alloc, group)?;
+    let mut made = copy_fields(alloc, group)?;
     made.set(field, ranges);
     Ok(made)
 }

@@ -3,8 +3,9 @@ ghost use Rattle.std.specs.Prelude.{◌≡◌, ◌⊎◌, ◌||◌, ◌&&◌, �
 ghost use Rattle.gw_rules.specs.Ask.{Ask as SpecAsk};
 ghost use Rattle.gw_policy_drafts.specs.suggestion.Own.{CoverAlike, covered, covers};
 
-use crate::suggestion::group::{Group, copy, joined, same_but};
+use crate::suggestion::group::{Group, joined, same_but};
 use crate::suggestion::places::{Places, mixed};
+use gw_ask_sets::regions::copy_fields;
 use gw_rules::FieldName;
 use std::alloc::{AllocError, Global};
 
@@ -126,7 +127,7 @@ fn add_joined(
         return Ok(());
     }
     places.note(number, done.len());
-    let copied = copy(alloc, group)?;
+    let copied = copy_fields(alloc, group)?;
     done.push(copied)?;
     Ok(())
 }

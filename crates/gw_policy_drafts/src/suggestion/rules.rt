@@ -6,7 +6,8 @@ ghost use Rattle.gw_policy_drafts.specs.suggestion.Own.{covered, covers};
 ghost use Rattle.gw_policy_drafts.specs.suggestion.Suggestion.{matched};
 
 use crate::suggestion::fault::SuggestFault;
-use crate::suggestion::group::{Group, copy};
+use crate::suggestion::group::Group;
+use gw_ask_sets::regions::copy_fields;
 use gw_rules::{Rule, RuleName};
 use itoa::Buffer;
 use std::alloc::{AllocError, Global};
@@ -51,7 +52,7 @@ fn rule_of(alloc: Global, number: usize, group: &Group) -> Result<Rule, SuggestF
     ensures allow { IfOk result (λ rule. rule.allow ≡ true) }
 {
     let name = name_of(alloc, number)?;
-    let ranges = copy(alloc, group)?;
+    let ranges = copy_fields(alloc, group)?;
     Ok(Rule {
         name,
         allow: true,

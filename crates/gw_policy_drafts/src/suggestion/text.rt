@@ -10,7 +10,7 @@ ghost use Rattle.gw_policy_drafts.specs.suggestion.Text.{matters, may_name_stati
 ghost use Rattle.gw_policy_drafts.specs.suggestion.Text.{plain_item, plain_items, plain_line, plain_value, ranges_line, rule_text, source_line};
 ghost use Rattle.gw_policy_drafts.specs.suggestion.Text.{suggestion_text, table_text, total, unread_line};
 
-use crate::migration::{put_field, put_field_items, put_operation, put_station};
+use crate::migration::{put_field, put_field_items, put_operation, put_quoted_station};
 use crate::suggestion::given::{Weighted, is_open};
 use crate::suggestion::leaving::Left;
 use gw_addr::put_decimal;
@@ -542,7 +542,9 @@ fn put_value(out: &mut Vec<u8>, field: FieldName, number: u64) -> Result<(), All
 {
     match field {
         FieldName::Operation => put_operation(out, number),
-        FieldName::SourceKey | FieldName::Sender | FieldName::Station => put_station(out, number),
+        FieldName::SourceKey | FieldName::Sender | FieldName::Station => {
+            put_quoted_station(out, number)
+        }
         _ => put_decimal(out, number),
     }
 }

@@ -1,4 +1,4 @@
-use Rattle.std.proofs.Common.{◌≡◌, ◌∙◌, ◌+◌, ◌≤◌, [], None, Option, ap, sym, take, drop, length, arith}
+use Rattle.std.proofs.Common.{◌∙◌, ◌+◌, ◌≤◌, [], None, Option, ap, sym, take, drop, length, arith}
 use Rattle.std.proofs.lemmas.List.{drop_all}
 use Rattle.gw_policy_drafts.proofs.BeginningLaw.{wrong_last, wrong_next}
 use Rattle.gw_policy_drafts.specs.beginning.Flaws.{wrong_from, wrong_or}

@@ -1,6 +1,6 @@
 use Rattle.std.proofs.Common.{rules, ◌<◌}
 use Rattle.gw_policy_drafts.proofs.BeginningLaw.{few_addresses}
-use Rattle.gw_policy_drafts.proofs.beginning.part.size_of.Goals as goal
+use Rattle.gw_policy_drafts.proofs.migration.subnets.size_of.Goals as goal
 
 pub returns-clause-most : goal.returns-clause-most
 returns-clause-most c =
