@@ -6,6 +6,7 @@ pub mod EntryLemmas
 pub mod HistoryLemmas
 pub mod ExplainedLemmas
 pub mod AskedLemmas
+pub mod SeenLemmas
 pub mod TurnLemmas
 pub mod RespondLemmas
 pub mod PlainLemmas

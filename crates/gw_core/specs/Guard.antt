@@ -1,5 +1,5 @@
 -- What a guard does about an event that was taken, before anything of it is sent.
-use Rattle.std.specs.Prelude.{◌≡◌, ⊤, ◌&&◌, Bool, true, false, List, Option, Some, None}
+use Rattle.std.specs.Prelude.{◌≡◌, ⊤, ◌&&◌, Bool, true, false, Option, Some, None}
 use Rattle.gw_script.specs.Event.{Event}
 use Rattle.gw_core.specs.Asked.{asked_at}
 use Rattle.gw_core.specs.Drops.{drop_at}
@@ -7,7 +7,8 @@ use Rattle.gw_core.specs.Effects.{NeedsNoMemory, effects_at, passes_end}
 use Rattle.gw_core.specs.History.{next}
 use Rattle.gw_core.specs.Lasting.{lasts}
 use Rattle.gw_core.specs.State.{State}
-use Rattle.gw_core.specs.declared.asked.Asked.{Asked}
+use Rattle.gw_core.specs.Seen.{IsSeenOf, Seen}
+use Rattle.gw_rules.specs.declared.verdict.Verdict.{Verdict}
 use Rattle.gw_core.specs.declared.gateway.Taken.{Taken}
 use Rattle.gw_core.specs.declared.guard.Both.{Both}
 
@@ -19,11 +20,12 @@ pub record IsTaken (w : State) (event : Event) (after : State) (taken : Taken) :
   pub lasts : taken.lasts ≡ lasts w event
   pub gateway : after ≡ next w event
 
--- What of its asks is seen, if they are watched: all with their verdicts, or nothing if memory was wanted.
-abbrev pub IsSeen : Bool → State → Event → Option (List Asked) → Type 0
-IsSeen watched w event (Some asked) = asked ≡ asked_at w event
-IsSeen true w event None = ¬ (NeedsNoMemory w event)
-IsSeen false w event None = ⊤
+-- What of its asks is seen, if they are watched: what decided each, and whole those that are wanted whole; or nothing if memory was
+-- wanted.
+abbrev pub IsSeen : Bool → (Verdict → Bool) → State → Event → Option Seen → Type 0
+IsSeen watched keeps w event (Some seen) = IsSeenOf keeps (asked_at w event) seen
+IsSeen true keeps w event None = ¬ (NeedsNoMemory w event)
+IsSeen false keeps w event None = ⊤
 
 -- both pass an event, and its datagrams may go if both let them
 abbrev pub PassesBoth : {G H : Type 0} → (G → State → Event → G → Bool → Type 0) → (H → State → Event → H → Bool → Type 0)

@@ -5,4 +5,5 @@ pub mod Outcome
 pub mod Replies
 pub mod Reports
 pub mod Respond
+pub mod Sieved
 pub mod View

@@ -332,7 +332,7 @@ impl Gateway {
         requires begun { A.kept asker ≡ [] }
         ensures outcome { OnOk result (IsOutcome self.now (event_of arrival.now) taken.new) }
         ensures asked { let event = event_of arrival.now in
-            let due = A.asked (origin (receive self.now event)) self.now.rules (asks self.now event) in
+            let due = A.asked (A.picks asker) (origin (receive self.now event)) self.now.rules (asks self.now event) in
             IfOk result (λ asked. asked ≡ due) }
         ensures count_end { IsErrOf result StepFault.CountEnd
             → passes_end self.now (event_of arrival.now) ≡ true }
@@ -371,7 +371,7 @@ impl Gateway {
         ensures drop { OnOk result (taken.new.drop ≡ taken.old.drop) }
         ensures asked { let w = self.now in
             let asks = asks_for w.rules w.relay w.device (admitted_view w received.now) in
-            IfOk result (λ asked. asked ≡ A.asked (origin_of received.now) w.rules asks) }
+            IfOk result (λ asked. asked ≡ A.asked (A.picks asker) (origin_of received.now) w.rules asks) }
         ensures count_end { IsErrOf result StepFault.CountEnd →
             2 ^ 63 < self.now.denials + length (denials_for self.now (admitted_view self.now received.now)) }
         ensures silent { let w = self.now in
@@ -465,7 +465,8 @@ impl Gateway {
         ensures silent { NeedsNoMemory self.old (Datagram port from octets.now) → IsOk result }
         ensures err { OnErr result (self.new ≡ self.old) }
     {
-        match self.take::<DenialsAlone>(alloc, port, from, octets) {
+        let arrival = Arrival { port, from, octets };
+        match self.take(alloc, &arrival, &DenialsAlone) {
             Ok(reported) => Ok(reported.taken.into_effects()),
             Err(fault) => Err(fault),
         }
@@ -480,27 +481,25 @@ impl Gateway {
     pub fn take<R: Reporting>(
         &mut self,
         alloc: Global,
-        port: u8,
-        from: BipAddr,
-        octets: &[u8],
+        arrival: &Arrival<'_>,
+        reporting: &R,
     ) -> Result<Reported<R::Asked>, StepFault>
         ensures step { IfOk result
-            (λ reported. IsStep self.old (Datagram port from octets.now) reported.taken.effects self.new) }
+            (λ reported. IsStep self.old (event_of arrival.now) reported.taken.effects self.new) }
         ensures drop { IfOk result
-            (λ reported. reported.taken.drop ≡ drop_at self.old (Datagram port from octets.now)) }
+            (λ reported. reported.taken.drop ≡ drop_at self.old (event_of arrival.now)) }
         ensures lasts { IfOk result
-            (λ reported. reported.taken.lasts ≡ lasts self.old (Datagram port from octets.now)) }
+            (λ reported. reported.taken.lasts ≡ lasts self.old (event_of arrival.now)) }
         ensures asked { IfOk result
-            (λ reported. reported.asked ≡ R.asked self.old (Datagram port from octets.now)) }
+            (λ reported. reported.asked ≡ R.asked reporting.now self.old (event_of arrival.now)) }
         ensures count_end { IsErrOf result StepFault.CountEnd
-            → passes_end self.old (Datagram port from octets.now) ≡ true }
+            → passes_end self.old (event_of arrival.now) ≡ true }
         // Memory only where something is asked or sent.
-        ensures silent { NeedsNoMemory self.old (Datagram port from octets.now) → IsOk result }
+        ensures silent { NeedsNoMemory self.old (event_of arrival.now) → IsOk result }
         ensures err { OnErr result (self.new ≡ self.old) }
     {
         let mut taken = Taken::nothing(alloc);
-        let arrival = Arrival { port, from, octets };
-        match self.take_to::<R>(alloc, &arrival, &mut taken) {
+        match self.take_to(alloc, arrival, reporting, &mut taken) {
             Ok(asked) => Ok(Reported { taken, asked }),
             Err(fault) => Err(fault),
         }
@@ -517,19 +516,20 @@ impl Gateway {
         &mut self,
         alloc: Global,
         arrival: &Arrival<'_>,
+        reporting: &R,
         taken: &mut Taken,
     ) -> Result<R::Asked, StepFault>
         ensures step { OnOk result (IsStep self.old (event_of arrival.now) taken.new.effects self.new) }
         ensures drop { OnOk result (taken.new.drop ≡ drop_at self.old (event_of arrival.now)) }
         ensures lasts { OnOk result (taken.new.lasts ≡ lasts self.old (event_of arrival.now)) }
-        ensures asked { IfOk result (λ asked. asked ≡ R.asked self.old (event_of arrival.now)) }
+        ensures asked { IfOk result (λ asked. asked ≡ R.asked reporting.now self.old (event_of arrival.now)) }
         ensures count_end { IsErrOf result StepFault.CountEnd → passes_end self.old (event_of arrival.now) ≡ true }
         // Memory only where something is asked or sent.
         ensures silent { NeedsNoMemory self.old (event_of arrival.now) → IsOk result }
         ensures err { OnErr result (self.new ≡ self.old) }
     {
         let now = &*self;
-        let asked = R::outcome(now, alloc, arrival, taken)?;
+        let asked = reporting.outcome(now, alloc, arrival, taken)?;
         let change = take_out(&mut taken.change);
         let write = take_out(&mut taken.write);
         self.move_on(change, write, taken.effects.denials.len() as u64)?;

@@ -1,4 +1,4 @@
-//! What is reported of what an event asks, beside its denials: nothing, or all of it.
+//! What is reported of what an event asks, beside its denials: nothing, all of it, or what a guard sees of it.
 
 ghost use Rattle.std.specs.Prelude.{◌≡◌, true, IsOk, IfOk, OnOk, IsErrOf};
 ghost use Rattle.gw_script.specs.Event.{Event, Tick};
@@ -10,8 +10,10 @@ ghost use Rattle.gw_core.specs.internal.Outcome.{IsOutcome};
 use crate::asked::AllAsked;
 use crate::fault::StepFault;
 use crate::gateway::{Gateway, Taken};
+use crate::guard::Guard;
 use crate::receive::Arrival;
 use crate::seen::SeenAsks;
+use crate::sieve::Sieve;
 use gw_rules::{Authorizer, Recorder};
 use std::alloc::Global;
 
@@ -22,15 +24,16 @@ pub trait Reporting {
     type Asked: Drop;
 
     /// What is reported of an event in a state.
-    ghost asked: { State → Event → Self.Asked };
+    ghost asked: { Self → State → Event → Self.Asked };
 
     /// What is reported of a tick, which asks nothing. It takes no memory.
-    fn nothing(alloc: Global) -> Self::Asked
-        ensures { (w : State) → result ≡ asked w Tick };
+    fn nothing(&self, alloc: Global) -> Self::Asked
+        ensures { (w : State) → result ≡ asked self.now w Tick };
 
     /// Writes what is done about a datagram into its place, and answers what is reported of it, while the gateway stays as
     /// it is. The faults are those of [`Gateway::step`]; what is in the place is then of no use.
     fn outcome(
+        &self,
         gateway: &Gateway,
         alloc: Global,
         arrival: &Arrival<'_>,
@@ -38,7 +41,7 @@ pub trait Reporting {
     ) -> Result<Self::Asked, StepFault>
         ensures outcome { OnOk result (IsOutcome gateway.now (event_of arrival.now) taken.new) }
         ensures asked { let event = event_of arrival.now in
-            IfOk result (λ reported. reported ≡ asked gateway.now event) }
+            IfOk result (λ reported. reported ≡ asked self.now gateway.now event) }
         ensures count_end { IsErrOf result StepFault.CountEnd
             → passes_end gateway.now (event_of arrival.now) ≡ true }
         ensures silent { NeedsNoMemory gateway.now (event_of arrival.now) → IsOk result };
@@ -51,12 +54,13 @@ pub struct DenialsAlone;
 impl Reporting for DenialsAlone {
     type Asked = ();
 
-    ghost asked = { λ w event. tt };
+    ghost asked = { λ _ w event. tt };
 
-    fn nothing(_alloc: Global) {}
+    fn nothing(&self, _alloc: Global) {}
 
     #[inline(always)]
     fn outcome(
+        &self,
         gateway: &Gateway,
         alloc: Global,
         arrival: &Arrival<'_>,
@@ -76,47 +80,53 @@ impl Reporting for AllAsks {
 
     type Asked = AllAsked;
 
-    ghost asked = { asked_at };
+    ghost asked = { λ _. asked_at };
 
-    fn nothing(alloc: Global) -> AllAsked {
+    fn nothing(&self, alloc: Global) -> AllAsked {
         AllAsked::new(alloc)
     }
 
     #[inline(always)]
     fn outcome(
+        &self,
         gateway: &Gateway,
         alloc: Global,
         arrival: &Arrival<'_>,
         taken: &mut Taken,
     ) -> Result<AllAsked, StepFault> {
-        let seen = AsksSeen::outcome(gateway, alloc, arrival, taken)?;
-        Ok(seen.to_all(alloc)?)
+        let asker = Recorder::new(alloc, gateway.policy());
+        gateway.outcome(alloc, arrival, asker, taken)
     }
 }
 
-/// The same, with whom the asks are of kept once, as a guard sees it.
-#[derive(Clone, Copy, Default)]
-pub struct AsksSeen;
+/// What a guard sees of all that is asked. What decided each ask wants memory.
+#[derive(Clone, Copy)]
+pub struct SeenBy<'a, G> {
+    /// The guard.
+    pub guard: &'a G,
+}
 
-impl Reporting for AsksSeen {
+impl<G: Guard> Reporting for SeenBy<'_, G> {
     ghost use Rattle.gw_core.specs.Asked.{asked_at};
+    ghost use Rattle.gw_core.specs.Seen.{seen_of};
 
     type Asked = SeenAsks;
 
-    ghost asked = { asked_at };
+    ghost asked = { λ seen w event. seen_of (G.keeps seen.guard.now) (asked_at w event) };
 
-    fn nothing(alloc: Global) -> SeenAsks {
+    fn nothing(&self, alloc: Global) -> SeenAsks {
         SeenAsks::none(alloc)
     }
 
     #[inline(always)]
     fn outcome(
+        &self,
         gateway: &Gateway,
         alloc: Global,
         arrival: &Arrival<'_>,
         taken: &mut Taken,
     ) -> Result<SeenAsks, StepFault> {
-        let asker = Recorder::new(alloc, gateway.policy());
+        let asker = Sieve::new(alloc, gateway.policy(), self.guard);
         gateway.outcome(alloc, arrival, asker, taken)
     }
 }

@@ -75,6 +75,7 @@ fn add_managed<A: Asker>(
         OnOk result (IsWalked A.kept A.kept_of rules due turn.old turn.new) }
     ensures stays { (rules : List Rule) →
         A.StandsFor turn.old.asker rules → A.StandsFor turn.new.asker rules }
+    ensures picks { A.picks turn.new.asker ≡ A.picks turn.old.asker }
     ensures silent { manage_asks relay.now (message_view message.now) ≡ [] → IsOk result }
 {
     if is_apdu(message) {
@@ -96,6 +97,7 @@ fn add_each_way<A: Asker>(
         OnOk result (IsWalked A.kept A.kept_of rules due turn.old turn.new) }
     ensures stays { (rules : List Rule) →
         A.StandsFor turn.old.asker rules → A.StandsFor turn.new.asker rules }
+    ensures picks { A.picks turn.new.asker ≡ A.picks turn.old.asker }
     ensures goes_on { let m = message_view message.now in
         IfOk result (λ goes. goes ≡ goes_on m.here m.from m.frame) }
     ensures silent { let m = message_view message.now in
@@ -130,6 +132,7 @@ fn add_passed<A: Asker>(
         OnOk result (IsWalked A.kept A.kept_of rules due turn.old turn.new) }
     ensures stays { (rules : List Rule) →
         A.StandsFor turn.old.asker rules → A.StandsFor turn.new.asker rules }
+    ensures picks { A.picks turn.new.asker ≡ A.picks turn.old.asker }
     ensures goes_on { let m = message_view message.now in
         IfOk result (λ goes. goes ≡ goes_on m.here m.from m.frame) }
     ensures silent { let m = message_view message.now in
@@ -156,6 +159,7 @@ fn add_entry<A: Asker>(
         OnOk result (IsWalked A.kept A.kept_of rules due turn.old turn.new) }
     ensures stays { (rules : List Rule) →
         A.StandsFor turn.old.asker rules → A.StandsFor turn.new.asker rules }
+    ensures picks { A.picks turn.new.asker ≡ A.picks turn.old.asker }
     ensures taken { (rules : List Rule) → A.StandsFor turn.old.asker rules →
         let due = is_taken rules relay.now (message_view message.now) in
         IfOk result (λ taken. taken ≡ due) }
@@ -186,6 +190,7 @@ fn add_served<A: Asker>(
         let due = message_change rules format device.now (message_view message.now) in
         OnOk result (write.new ≡ due) }
     ensures place { OnOk result (HasPlace device.now write.new) }
+    ensures picks { A.picks turn.new.asker ≡ A.picks turn.old.asker }
     ensures silent { (rules : List Rule) → A.StandsFor turn.old.asker rules →
         let m = message_view message.now in
         message_asks rules format device.now m ≡ [] → message_sends rules format device.now m ≡ [] →
@@ -218,6 +223,7 @@ fn add_message<A: Asker>(
     ensures response { (rules : List Rule) → A.StandsFor turn.old.asker rules →
         let due = admit rules relay.now (judged (message_view message.now)) in
         OnOk result (IsResponse A.kept A.kept_of rules relay.now device.now due turn.old turn.new write.new) }
+    ensures picks { A.picks turn.new.asker ≡ A.picks turn.old.asker }
     ensures silent { (rules : List Rule) → A.StandsFor turn.old.asker rules →
         let due = admit rules relay.now (judged (message_view message.now)) in
         asks_for rules relay.now device.now due ≡ [] →
@@ -249,6 +255,7 @@ pub(crate) fn respond<A: Asker>(
     ensures response { (rules : List Rule) → A.StandsFor turn.old.asker rules →
         let due = admit rules relay.now (received_view received.now) in
         OnOk result (IsResponse A.kept A.kept_of rules relay.now device.now due turn.old turn.new write.new) }
+    ensures picks { A.picks turn.new.asker ≡ A.picks turn.old.asker }
     ensures silent { (rules : List Rule) → A.StandsFor turn.old.asker rules →
         let due = admit rules relay.now (received_view received.now) in
         asks_for rules relay.now device.now due ≡ [] →

@@ -1,16 +1,18 @@
-//! What an event asks, as a guard sees it: the verdicts, and once whom the asks are of.
+//! What an event asks, as a guard sees it: what decided each ask, what of it is kept whole, and once whom the asks are of.
 
-ghost use Rattle.std.specs.Prelude.{◌≡◌, [], map, IfOk, IsOk};
+ghost use Rattle.std.specs.Prelude.{◌≡◌, Bool, List, filter, map};
+ghost use Rattle.gw_rules.specs.declared.verdict.Verdict.{Verdict};
 ghost use Rattle.gw_core.specs.Asked.{asked_from, asked_of};
 ghost use Rattle.gw_core.specs.Receive.{source_of};
+ghost use Rattle.gw_core.specs.Seen.{nothing_seen, seen_of};
+ghost use Rattle.gw_core.specs.internal.Sieved.{deciders_of};
 ghost use Rattle.gw_core.specs.internal.View.{origin_of};
 
-use crate::asked::{AllAsked, Asked};
 use crate::denial::origin_of;
 use crate::receive::Received;
-use gw_addr::{Mac, NetNum, Source};
+use gw_addr::{Mac, NetNum, Sequence, Source};
 use gw_rules::{Ask, Operation, Verdict, Verdicts};
-use std::alloc::{AllocError, Global};
+use std::alloc::Global;
 use std::marker::Model;
 
 /// Whom asks are of: the number of the port that they came on, from 1, whom the datagram claims to come from, and its link source.
@@ -70,76 +72,71 @@ fn any_source() -> Source {
     }
 }
 
-/// What an event asks, with what the policy says of each ask, in order. Whom the asks are of is kept once. Contracts see the list of
-/// the asks.
+/// By which rule each ask was decided: its number, from 1, or none. Contracts see the list of them.
+pub type Deciders = Sequence<Option<u16>>;
+
+/// What a guard sees of what an event asks: by which rule each ask was decided, in order, and whole those verdicts that the guard wants
+/// to see whole. Whom the asks are of is kept once. Contracts see both lists.
 #[derive(Drop)]
 pub struct SeenAsks {
     whom: Whom,
-    verdicts: Verdicts,
+    deciders: Deciders,
+    kept: Verdicts,
 }
 
 impl Model for SeenAsks {
-    ghost use Rattle.std.specs.Prelude.{List, map};
+    ghost use Rattle.std.specs.Prelude.{map};
     ghost use Rattle.gw_core.specs.Asked.{asked_from};
-    ghost use Rattle.gw_core.specs.declared.asked.Asked.{Asked};
+    ghost use Rattle.gw_core.specs.Seen.{Seen};
 
-    ghost Value = { List Asked };
+    ghost Value = { Seen };
 
-    ghost view = { λ s. map (asked_from s.whom) s.verdicts };
+    ghost view = { λ s. record { deciders = s.deciders; kept = map (asked_from s.whom) s.kept } };
 }
 
 impl SeenAsks {
     /// Nothing is asked. It takes no memory.
     pub(crate) fn none(alloc: Global) -> Self
-        ensures { result ≡ [] }
+        ensures { result ≡ nothing_seen }
     {
         SeenAsks {
             whom: Whom::anybody(),
-            verdicts: Verdicts::new(alloc),
+            deciders: Deciders::new(alloc),
+            kept: Verdicts::new(alloc),
         }
     }
 
-    /// The asks of what is received, with these verdicts. It takes no memory.
-    pub(crate) fn of(alloc: Global, received: &Received<'_>, verdicts: Verdicts) -> Self
-        ensures { result ≡ asked_of (origin_of received.now) verdicts }
+    /// What is seen of what is received, if these rules decided what it asks and these verdicts are kept of it. It takes no memory.
+    pub(crate) fn of(
+        alloc: Global,
+        received: &Received<'_>,
+        deciders: Deciders,
+        kept: Verdicts,
+    ) -> Self
+        ensures { (keeps : Verdict → Bool) (verdicts : List Verdict) → deciders ≡ deciders_of verdicts → kept ≡ filter keeps verdicts →
+            result ≡ seen_of keeps (asked_of (origin_of received.now) verdicts) }
     {
         match origin_of(received) {
             Some(from) => SeenAsks {
                 whom: from.whom(),
-                verdicts,
+                deciders,
+                kept,
             },
             None => SeenAsks::none(alloc),
         }
     }
 
-    /// Whom the asks are of, and the verdicts in order.
-    pub fn parts(&self) -> (&Whom, &[Verdict])
-        ensures { self.now ≡ map (asked_from result.0.now) result.1.now }
+    /// By which rule each ask was decided, in order.
+    pub fn deciders(&self) -> &[Option<u16>]
+        ensures { result.now ≡ self.now.deciders }
     {
-        (&self.whom, self.verdicts.as_slice())
+        self.deciders.as_slice()
     }
 
-    /// Each ask by itself, with whom it is of. If there is none it takes no memory.
-    pub(crate) fn to_all(&self, alloc: Global) -> Result<AllAsked, AllocError>
-        ensures all { IfOk result (λ all. all ≡ self.now) }
-        ensures silent { self.now ≡ [] → IsOk result }
+    /// Whom the asks are of, and the verdicts that are kept whole, in order.
+    pub fn kept(&self) -> (&Whom, &[Verdict])
+        ensures { self.now.kept ≡ map (asked_from result.0.now) result.1.now }
     {
-        all_of(alloc, &self.whom, self.verdicts.as_slice())
+        (&self.whom, self.kept.as_slice())
     }
-}
-
-/// Each ask by itself, of the verdicts on what somebody asks. If there is none it takes no memory.
-fn all_of(alloc: Global, whom: &Whom, verdicts: &[Verdict]) -> Result<AllAsked, AllocError>
-    ensures all { IfOk result (λ all. all ≡ map (asked_from whom.now) verdicts.now) }
-    ensures silent { verdicts.now ≡ [] → IsOk result }
-{
-    let mut all = AllAsked::new(alloc);
-    for verdict in verdicts {
-        all.push(Asked {
-            port: whom.port,
-            source: *whom.source_of(&verdict.ask),
-            verdict: *verdict,
-        })?;
-    }
-    Ok(all)
 }

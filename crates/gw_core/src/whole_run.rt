@@ -21,6 +21,7 @@ pub fn take_event<R: Reporting>(
     alloc: Global,
     gateway: &mut Gateway,
     event: &Event<'_>,
+    reporting: &R,
 ) -> Result<Reported<R::Asked>, StepFault>
     ensures given { IfOk result
         (λ reported. reported.taken.effects ≡ effects_at gateway.old (event_view event.now)) }
@@ -29,7 +30,7 @@ pub fn take_event<R: Reporting>(
     ensures lasts { IfOk result
         (λ reported. reported.taken.lasts ≡ lasts gateway.old (event_view event.now)) }
     ensures asked { IfOk result
-        (λ reported. reported.asked ≡ R.asked gateway.old (event_view event.now)) }
+        (λ reported. reported.asked ≡ R.asked reporting.now gateway.old (event_view event.now)) }
     ensures moved { OnOk result (gateway.new ≡ next gateway.old (event_view event.now)) }
     ensures within { IsOk result → passes_end gateway.old (event_view event.now) ≡ false }
     ensures count_end { IsErrOf result StepFault.CountEnd →
@@ -39,7 +40,7 @@ pub fn take_event<R: Reporting>(
     ensures err { OnErr result (gateway.new ≡ gateway.old) }
 {
     let mut taken = Taken::nothing(alloc);
-    match take_event_to::<R>(alloc, gateway, event, &mut taken) {
+    match take_event_to(alloc, gateway, event, reporting, &mut taken) {
         Ok(asked) => Ok(Reported { taken, asked }),
         Err(fault) => Err(fault),
     }
@@ -52,12 +53,13 @@ pub fn take_event_to<R: Reporting>(
     alloc: Global,
     gateway: &mut Gateway,
     event: &Event<'_>,
+    reporting: &R,
     taken: &mut Taken,
 ) -> Result<R::Asked, StepFault>
     ensures given { OnOk result (taken.new.effects ≡ effects_at gateway.old (event_view event.now)) }
     ensures drop { OnOk result (taken.new.drop ≡ drop_at gateway.old (event_view event.now)) }
     ensures lasts { OnOk result (taken.new.lasts ≡ lasts gateway.old (event_view event.now)) }
-    ensures asked { IfOk result (λ asked. asked ≡ R.asked gateway.old (event_view event.now)) }
+    ensures asked { IfOk result (λ asked. asked ≡ R.asked reporting.now gateway.old (event_view event.now)) }
     ensures moved { OnOk result (gateway.new ≡ next gateway.old (event_view event.now)) }
     ensures within { IsOk result → passes_end gateway.old (event_view event.now) ≡ false }
     ensures count_end { IsErrOf result StepFault.CountEnd →
@@ -73,12 +75,12 @@ pub fn take_event_to<R: Reporting>(
                 from: *from,
                 octets,
             };
-            gateway.take_to::<R>(alloc, &arrival, taken)
+            gateway.take_to(alloc, &arrival, reporting, taken)
         }
         Event::Tick => {
             gateway.tick()?;
             taken.clear();
-            Ok(R::nothing(alloc))
+            Ok(reporting.nothing(alloc))
         }
     }
 }
@@ -102,7 +104,7 @@ pub fn run(
     let mut given = Vec::new(alloc);
     let mut rest = events;
     while let [event, later @ ..] = rest {
-        let reported = take_event::<DenialsAlone>(alloc, gateway, event)?;
+        let reported = take_event(alloc, gateway, event, &DenialsAlone)?;
         if given.push(reported.taken.into_effects()).is_err() {
             return Err(StepFault::Memory);
         }

@@ -1,27 +1,24 @@
 //! The asks of events, counted.
 
-ghost use Rattle.std.specs.Prelude.{map};
-ghost use Rattle.gw_core.specs.Asked.{asked_from};
-ghost use Rattle.gw_core.specs.Receive.{Origin};
-ghost use Rattle.gw_decisions.specs.Counted.{AreCounted};
+ghost use Rattle.std.specs.Prelude.{◌≡◌, List, map};
+ghost use Rattle.gw_core.specs.declared.asked.Asked.{Asked};
+ghost use Rattle.gw_decisions.specs.Counted.{AreCounted, AreCountedBy};
 
 use crate::tally::Tally;
 use gw_core::SeenAsks;
-use gw_rules::Verdict;
 
 /// Counts by which rule each ask was decided. A count of 2^64 - 1 stays.
 pub fn count_asked(tally: &mut Tally, asked: &SeenAsks)
-    ensures { AreCounted tally.old asked.now tally.new }
+    ensures { (all : List Asked) → asked.now.deciders ≡ map (λ a. a.verdict.by) all → AreCounted tally.old all tally.new }
 {
-    let (_whom, verdicts) = asked.parts();
-    count_verdicts(tally, verdicts);
+    count_deciders(tally, asked.deciders());
 }
 
-/// The same of the verdicts on asks, whoever they are of.
-pub fn count_verdicts(tally: &mut Tally, verdicts: &[Verdict])
-    ensures { (from : Origin) → AreCounted tally.old (map (asked_from from) verdicts.now) tally.new }
+/// Counts the asks that these rules decided, each by its number, or no rule.
+fn count_deciders(tally: &mut Tally, deciders: &[Option<u16>])
+    ensures { AreCountedBy tally.old deciders.now tally.new }
 {
-    for verdict in verdicts {
-        tally.count_decided(verdict.by);
+    for by in deciders {
+        tally.count_decided(*by);
     }
 }

@@ -4,4 +4,4 @@
 mod counted;
 pub mod tally;
 
-pub use counted::{count_asked, count_verdicts};
+pub use counted::count_asked;

@@ -60,6 +60,7 @@ impl Access<'_> {
             OnOk result (A.kept asker.new ≡ A.kept asker.old ++ A.kept_of rules due.asks) }
         ensures stays { (rules : List Rule) → A.StandsFor asker.old rules →
             A.StandsFor asker.new rules }
+        ensures picks { A.picks asker.new ≡ A.picks asker.old }
         ensures place { IfOk result (λ served. served.change ≡ None) }
     {
         match decode_read(body) {
@@ -84,6 +85,7 @@ impl Access<'_> {
             OnOk result (A.kept asker.new ≡ A.kept asker.old ++ A.kept_of rules due.asks) }
         ensures stays { (rules : List Rule) → A.StandsFor asker.old rules →
             A.StandsFor asker.new rules }
+        ensures picks { A.picks asker.new ≡ A.picks asker.old }
         ensures place { IfOk result (λ served. served.change ≡ None) }
     {
         match decode_multi(asker.alloc(), body) {
@@ -108,6 +110,7 @@ impl Access<'_> {
             OnOk result (A.kept asker.new ≡ A.kept asker.old ++ A.kept_of rules due.asks) }
         ensures stays { (rules : List Rule) → A.StandsFor asker.old rules →
             A.StandsFor asker.new rules }
+        ensures picks { A.picks asker.new ≡ A.picks asker.old }
         ensures place { IfOk result (λ served. HasPlace self.now.objects.now served.change) }
     {
         match decode_write(body) {
@@ -132,6 +135,7 @@ impl Access<'_> {
             OnOk result (A.kept asker.new ≡ A.kept asker.old ++ A.kept_of rules due.asks) }
         ensures stays { (rules : List Rule) → A.StandsFor asker.old rules →
             A.StandsFor asker.new rules }
+        ensures picks { A.picks asker.new ≡ A.picks asker.old }
         ensures place { IfOk result (λ served. HasPlace self.now.objects.now served.change) }
         // What isn't answered needs no memory.
         ensures silent { (rules : List Rule) →
@@ -171,6 +175,7 @@ impl Access<'_> {
             OnOk result (A.kept asker.new ≡ A.kept asker.old ++ A.kept_of rules due.asks) }
         ensures stays { (rules : List Rule) → A.StandsFor asker.old rules →
             A.StandsFor asker.new rules }
+        ensures picks { A.picks asker.new ≡ A.picks asker.old }
         ensures place { IfOk result (λ served. served.change ≡ None) }
         // What asks nothing needs no memory.
         ensures silent { (rules : List Rule) →
@@ -214,6 +219,7 @@ impl Device {
             OnOk result (A.kept asker.new ≡ A.kept asker.old ++ A.kept_of rules due) }
         ensures stays { (rules : List Rule) → A.StandsFor asker.old rules →
             A.StandsFor asker.new rules }
+        ensures picks { A.picks asker.new ≡ A.picks asker.old }
         ensures place { IfOk result (λ served. HasPlace self.now served.change) }
         // What is neither asked about nor answered needs no memory.
         ensures silent { (rules : List Rule) →

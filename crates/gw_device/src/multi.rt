@@ -61,6 +61,7 @@ impl Access<'_> {
             OnOk result (A.kept asker.new ≡ A.kept asker.old ++ A.kept_of rules part.asks) }
         ensures stays { (rules : List Rule) → A.StandsFor asker.old rules →
             A.StandsFor asker.new rules }
+        ensures picks { A.picks asker.new ≡ A.picks asker.old }
     {
         if asker.authorize(ask)? {
             out.put(self.objects, Piece::Item { of })
@@ -94,6 +95,7 @@ impl Access<'_> {
             OnOk result (A.kept asker.new ≡ A.kept asker.old ++ A.kept_of rules part.asks) }
         ensures stays { (rules : List Rule) → A.StandsFor asker.old rules →
             A.StandsFor asker.new rules }
+        ensures picks { A.picks asker.new ≡ A.picks asker.old }
     {
         // The asks differ in the property alone, so one is made and set for each.
         let mut ask = self.multi_ask(object, 0);
@@ -132,6 +134,7 @@ impl Access<'_> {
             OnOk result (A.kept asker.new ≡ A.kept asker.old ++ A.kept_of rules part.asks) }
         ensures stays { (rules : List Rule) → A.StandsFor asker.old rules →
             A.StandsFor asker.new rules }
+        ensures picks { A.picks asker.new ≡ A.picks asker.old }
     {
         match self.objects.find(of.object) {
             Some(kind) => {
@@ -167,6 +170,7 @@ impl Access<'_> {
             OnOk result (A.kept asker.new ≡ A.kept asker.old ++ A.kept_of rules part.asks) }
         ensures stays { (rules : List Rule) → A.StandsFor asker.old rules →
             A.StandsFor asker.new rules }
+        ensures picks { A.picks asker.new ≡ A.picks asker.old }
     {
         if asker.authorize(&self.multi_ask(of.object, of.property))? {
             self.put_members(of, set, asker, out)
@@ -199,6 +203,7 @@ impl Access<'_> {
             OnOk result (A.kept asker.new ≡ A.kept asker.old ++ A.kept_of rules part.asks) }
         ensures stays { (rules : List Rule) → A.StandsFor asker.old rules →
             A.StandsFor asker.new rules }
+        ensures picks { A.picks asker.new ≡ A.picks asker.old }
     {
         match set_of(of.property) {
             Some(set) => self.put_set(of, set, asker, out),
@@ -229,6 +234,7 @@ impl Access<'_> {
             OnOk result (A.kept asker.new ≡ A.kept asker.old ++ A.kept_of rules part.asks) }
         ensures stays { (rules : List Rule) → A.StandsFor asker.old rules →
             A.StandsFor asker.new rules }
+        ensures picks { A.picks asker.new ≡ A.picks asker.old }
     {
         let of = PropertyReference {
             object: self.named_object(reference.object),
@@ -263,6 +269,7 @@ impl Access<'_> {
             OnOk result (A.kept asker.new ≡ A.kept asker.old ++ A.kept_of rules part.asks) }
         ensures stays { (rules : List Rule) → A.StandsFor asker.old rules →
             A.StandsFor asker.new rules }
+        ensures picks { A.picks asker.new ≡ A.picks asker.old }
     {
         let Some((first, others)) = references.split_first() else {
             return Ok(());
@@ -293,6 +300,7 @@ impl Access<'_> {
             OnOk result (A.kept asker.new ≡ A.kept asker.old ++ A.kept_of rules part.asks) }
         ensures stays { (rules : List Rule) → A.StandsFor asker.old rules →
             A.StandsFor asker.new rules }
+        ensures picks { A.picks asker.new ≡ A.picks asker.old }
         ensures room { IfOk result (λ octets. 10 ≤ vec_len octets) }
     {
         let mut octets = begin_apdu(spare)?;
@@ -325,6 +333,7 @@ impl Access<'_> {
             OnOk result (A.kept asker.new ≡ A.kept asker.old ++ A.kept_of rules due.asks) }
         ensures stays { (rules : List Rule) → A.StandsFor asker.old rules →
             A.StandsFor asker.new rules }
+        ensures picks { A.picks asker.new ≡ A.picks asker.old }
         ensures place { IfOk result (λ served. served.change ≡ None) }
     {
         let references = request.references.as_slice();

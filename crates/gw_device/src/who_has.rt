@@ -103,6 +103,7 @@ impl Access<'_> {
             OnOk result (A.kept asker.new ≡ A.kept asker.old ++ A.kept_of rules due.asks) }
         ensures stays { (rules : List Rule) → A.StandsFor asker.old rules →
             A.StandsFor asker.new rules }
+        ensures picks { A.picks asker.new ≡ A.picks asker.old }
         ensures place { IfOk result (λ served. served.change ≡ None) }
     {
         if asker.authorize(&self.who_has_ask(object))? {
@@ -133,6 +134,7 @@ impl Access<'_> {
             OnOk result (A.kept asker.new ≡ A.kept asker.old ++ A.kept_of rules due.asks) }
         ensures stays { (rules : List Rule) → A.StandsFor asker.old rules →
             A.StandsFor asker.new rules }
+        ensures picks { A.picks asker.new ≡ A.picks asker.old }
         ensures place { IfOk result (λ served. served.change ≡ None) }
         // What asks nothing needs no memory.
         ensures silent { (rules : List Rule) →

@@ -85,6 +85,7 @@ impl Access<'_> {
             OnOk result (A.kept asker.new ≡ A.kept asker.old ++ A.kept_of rules (ask ∷ [])) }
         ensures stays { (rules : List Rule) → A.StandsFor asker.old rules →
             A.StandsFor asker.new rules }
+        ensures picks { A.picks asker.new ≡ A.picks asker.old }
         ensures place { IfOk result (λ decision. IfOk decision (λ change.
             change.place < length self.now.objects.now.configured.objects)) }
     {
@@ -117,6 +118,7 @@ impl Access<'_> {
             OnOk result (A.kept asker.new ≡ A.kept asker.old ++ A.kept_of rules due.asks) }
         ensures stays { (rules : List Rule) → A.StandsFor asker.old rules →
             A.StandsFor asker.new rules }
+        ensures picks { A.picks asker.new ≡ A.picks asker.old }
         ensures place { IfOk result (λ served. HasPlace self.now.objects.now served.change) }
     {
         let decision = self.decide(request, asker)?;

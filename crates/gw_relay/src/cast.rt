@@ -334,6 +334,7 @@ impl Relay {
             OnOk result (IsWalked A.kept A.kept_of rules due turn.old turn.new) }
         ensures stays { (rules : List Rule) → A.StandsFor turn.old.asker rules →
             A.StandsFor turn.new.asker rules }
+        ensures picks { A.picks turn.new.asker ≡ A.picks turn.old.asker }
         ensures goes_on { let m = message_view message.now in
             IfOk result (λ goes. goes ≡ goes_on m.here m.from m.frame) }
         // What asks nothing and refuses no unregistered sender wants no memory.
@@ -367,6 +368,7 @@ impl Relay {
             OnOk result (IsWalked A.kept A.kept_of rules due turn.old turn.new) }
         ensures stays { (rules : List Rule) → A.StandsFor turn.old.asker rules →
             A.StandsFor turn.new.asker rules }
+        ensures picks { A.picks turn.new.asker ≡ A.picks turn.old.asker }
         ensures silent { cast_asks self.now.format (message_view message.now) ≡ [] → IsOk result }
         ensures unasked { cast_asks self.now.format (message_view message.now) ≡ [] →
             turn.new ≡ turn.old }

@@ -121,6 +121,7 @@ impl Relay {
             IfOk result (AreAsked A.kept A.kept_of rules due asker.old asker.new) }
         ensures stays { (rules : List Rule) → A.StandsFor asker.old rules →
             A.StandsFor asker.new rules }
+        ensures picks { A.picks asker.new ≡ A.picks asker.old }
     {
         if is_stranger && !authorize_one(asker, &message.enter_ask(self.format()))? {
             return Ok(false);
@@ -143,6 +144,7 @@ impl Relay {
             OnOk result (IsWalked A.kept A.kept_of rules due turn.old turn.new) }
         ensures stays { (rules : List Rule) → A.StandsFor turn.old.asker rules →
             A.StandsFor turn.new.asker rules }
+        ensures picks { A.picks turn.new.asker ≡ A.picks turn.old.asker }
         ensures admits { (rules : List Rule) → A.StandsFor turn.old.asker rules →
             IfOk result (λ yes. yes ≡ admits rules self.now (message_view message.now)) }
         ensures silent { (rules : List Rule) → entry_asks rules self.now (message_view message.now) ≡ [] →
@@ -180,6 +182,7 @@ impl Relay {
             OnOk result (IsWalked A.kept A.kept_of rules due turn.old turn.new) }
         ensures stays { (rules : List Rule) → A.StandsFor turn.old.asker rules →
             A.StandsFor turn.new.asker rules }
+        ensures picks { A.picks turn.new.asker ≡ A.picks turn.old.asker }
         ensures admits { (rules : List Rule) → A.StandsFor turn.old.asker rules →
             IfOk result (λ yes. yes ≡ admits rules self.now (message_view message.now)) }
         ensures silent { (rules : List Rule) → entry_asks rules self.now (message_view message.now) ≡ [] →

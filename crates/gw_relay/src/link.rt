@@ -53,6 +53,7 @@ impl Relay {
             OnOk result (IsWalked A.kept A.kept_of rules due turn.old turn.new) }
         ensures stays { (rules : List Rule) → A.StandsFor turn.old.asker rules →
             A.StandsFor turn.new.asker rules }
+        ensures picks { A.picks turn.new.asker ≡ A.picks turn.old.asker }
         ensures silent { let m = message.now in
             link_asks self.now.format m.here.now.port m.from (view m.frame.now) ≡ [] →
             is_misplaced m.here.now.port (view m.frame.now) ≡ false → IsOk result }

@@ -161,6 +161,7 @@ impl Message<'_> {
             OnOk result (AreTaken A.kept A.kept_of rules (step ∷ []) turn.old turn.new) }
         ensures stays { (rules : List Rule) → A.StandsFor turn.old.asker rules →
             A.StandsFor turn.new.asker rules }
+        ensures picks { A.picks turn.new.asker ≡ A.picks turn.old.asker }
     {
         let ask = self.ask(format, Operation::Network, None);
         if turn.asker.authorize(&ask)? {
@@ -187,6 +188,7 @@ impl Message<'_> {
             OnOk result (A.kept asker.new ≡ A.kept asker.old ++ A.kept_of rules asks) }
         ensures stays { (rules : List Rule) → A.StandsFor asker.old rules →
             A.StandsFor asker.new rules }
+        ensures picks { A.picks asker.new ≡ A.picks asker.old }
     {
         let [high, low, rest @ ..] = octets else {
             return Ok(());
@@ -247,6 +249,7 @@ impl Relay {
             OnOk result (IsWalked A.kept A.kept_of rules due turn.old turn.new) }
         ensures stays { (rules : List Rule) → A.StandsFor turn.old.asker rules →
             A.StandsFor turn.new.asker rules }
+        ensures picks { A.picks turn.new.asker ≡ A.picks turn.old.asker }
     {
         let mut networks = Sequence::new(turn.alloc());
         let octets = message.npdu.payload.octets();
@@ -313,6 +316,7 @@ impl Relay {
             OnOk result (AreTaken A.kept A.kept_of rules (step ∷ []) turn.old turn.new) }
         ensures stays { (rules : List Rule) → A.StandsFor turn.old.asker rules →
             A.StandsFor turn.new.asker rules }
+        ensures picks { A.picks turn.new.asker ≡ A.picks turn.old.asker }
     {
         let ask = message.ask(self.format(), Operation::Network, Some(network.get()));
         if !turn.asker.authorize(&ask)? {
@@ -334,6 +338,7 @@ impl Relay {
             OnOk result (AreTaken A.kept A.kept_of rules (step ∷ []) turn.old turn.new) }
         ensures stays { (rules : List Rule) → A.StandsFor turn.old.asker rules →
             A.StandsFor turn.new.asker rules }
+        ensures picks { A.picks turn.new.asker ≡ A.picks turn.old.asker }
     {
         let ask = message.ask(self.format(), Operation::Network, None);
         if !turn.asker.authorize(&ask)? {
@@ -358,6 +363,7 @@ impl Relay {
             OnOk result (AreTaken A.kept A.kept_of rules steps turn.old turn.new) }
         ensures stays { (rules : List Rule) → A.StandsFor turn.old.asker rules →
             A.StandsFor turn.new.asker rules }
+        ensures picks { A.picks turn.new.asker ≡ A.picks turn.old.asker }
         ensures silent { let steps = question_steps self.now (message_view message.now) octets.now in
             asks_of steps ≡ [] → IsOk result }
         ensures unasked { let steps = question_steps self.now (message_view message.now) octets.now in
@@ -385,6 +391,7 @@ impl Relay {
             OnOk result (AreTaken A.kept A.kept_of rules steps turn.old turn.new) }
         ensures stays { (rules : List Rule) → A.StandsFor turn.old.asker rules →
             A.StandsFor turn.new.asker rules }
+        ensures picks { A.picks turn.new.asker ≡ A.picks turn.old.asker }
         ensures silent { asks_of (answer_steps self.now (message_view message.now)) ≡ [] → IsOk result }
         ensures unasked { asks_of (answer_steps self.now (message_view message.now)) ≡ [] →
             turn.new ≡ turn.old }
@@ -413,6 +420,7 @@ impl Relay {
             OnOk result (IsWalked A.kept A.kept_of rules due turn.old turn.new) }
         ensures stays { (rules : List Rule) → A.StandsFor turn.old.asker rules →
             A.StandsFor turn.new.asker rules }
+        ensures picks { A.picks turn.new.asker ≡ A.picks turn.old.asker }
         ensures silent { manage_asks self.now (message_view message.now) ≡ [] → IsOk result }
         ensures unasked { manage_asks self.now (message_view message.now) ≡ [] → turn.new ≡ turn.old }
     {

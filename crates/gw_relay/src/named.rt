@@ -122,6 +122,7 @@ pub(crate) fn authorize_one<A: Asker>(asker: &mut A, ask: &Ask) -> Result<bool, 
         IfOk result (AreAsked A.kept A.kept_of rules (ask.now ∷ []) asker.old asker.new) }
     ensures stays { (rules : List Rule) → A.StandsFor asker.old rules →
         A.StandsFor asker.new rules }
+    ensures picks { A.picks asker.new ≡ A.picks asker.old }
 {
     let is_allowed = asker.authorize(ask)?;
     Ok(is_allowed)
@@ -141,6 +142,7 @@ fn authorize_references<A: Asker>(
         IfOk result (AreAsked A.kept A.kept_of rules (multi_asks route.now read) asker.old asker.new) }
     ensures stays { (rules : List Rule) → A.StandsFor asker.old rules →
         A.StandsFor asker.new rules }
+    ensures picks { A.picks asker.new ≡ A.picks asker.old }
 {
     let Ok((reference, next)) = read_reference(left, current, octets) else {
         return Ok(true);
@@ -163,6 +165,7 @@ fn authorize_multi<A: Asker>(asker: &mut A, route: &Ask, body: &[u8]) -> Result<
         IfOk result (AreAsked A.kept A.kept_of rules asks asker.old asker.new) }
     ensures stays { (rules : List Rule) → A.StandsFor asker.old rules →
         A.StandsFor asker.new rules }
+    ensures picks { A.picks asker.new ≡ A.picks asker.old }
 {
     if are_references(MAX_REFERENCES, None, body) {
         authorize_references(asker, route, MAX_REFERENCES, None, body)
@@ -178,6 +181,7 @@ fn authorize_segment<A: Asker>(asker: &mut A, route: &Ask, service: u8) -> Resul
         IfOk result (AreAsked A.kept A.kept_of rules asks asker.old asker.new) }
     ensures stays { (rules : List Rule) → A.StandsFor asker.old rules →
         A.StandsFor asker.new rules }
+    ensures picks { A.picks asker.new ≡ A.picks asker.old }
 {
     match service {
         READ_PROPERTY | READ_PROPERTY_MULTIPLE => {
@@ -200,6 +204,7 @@ fn authorize_request<A: Asker>(
         IfOk result (AreAsked A.kept A.kept_of rules asks asker.old asker.new) }
     ensures stays { (rules : List Rule) → A.StandsFor asker.old rules →
         A.StandsFor asker.new rules }
+    ensures picks { A.picks asker.new ≡ A.picks asker.old }
 {
     if request.segment.is_some() {
         return authorize_segment(asker, route, request.service);
@@ -225,6 +230,7 @@ impl Relay {
             IfOk result (AreAsked A.kept A.kept_of rules asks asker.old asker.new) }
         ensures stays { (rules : List Rule) → A.StandsFor asker.old rules →
             A.StandsFor asker.new rules }
+        ensures picks { A.picks asker.new ≡ A.picks asker.old }
     {
         let (Format::Two | Format::Three, Payload::Apdu(octets)) = (self.format(), payload) else {
             return Ok(true);
@@ -253,6 +259,7 @@ impl Relay {
             IfOk result (AreAsked A.kept A.kept_of rules asks asker.old asker.new) }
         ensures stays { (rules : List Rule) → A.StandsFor asker.old rules →
             A.StandsFor asker.new rules }
+        ensures picks { A.picks asker.new ≡ A.picks asker.old }
     {
         let goes = asker.authorize(route)?;
         let are_allowed = self.authorize_named(asker, route, payload)?;
@@ -274,6 +281,7 @@ impl Relay {
             IfOk result (AreAsked A.kept A.kept_of rules asks asker.old asker.new) }
         ensures stays { (rules : List Rule) → A.StandsFor asker.old rules →
             A.StandsFor asker.new rules }
+        ensures picks { A.picks asker.new ≡ A.picks asker.old }
     {
         let format = self.format();
         let ask = message.passing_ask(format, Operation::Cast, bound_for(message.npdu));

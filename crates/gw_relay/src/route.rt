@@ -261,6 +261,7 @@ impl Relay {
             OnOk result (AreTaken A.kept A.kept_of rules steps turn.old turn.new) }
         ensures stays { (rules : List Rule) → A.StandsFor turn.old.asker rules →
             A.StandsFor turn.new.asker rules }
+        ensures picks { A.picks turn.new.asker ≡ A.picks turn.old.asker }
         ensures silent { others message.now.here.now.port.number ports.now ≡ [] → IsOk result }
         ensures unasked { others message.now.here.now.port.number ports.now ≡ [] → turn.new ≡ turn.old }
     {
@@ -288,6 +289,7 @@ impl Relay {
             OnOk result (AreTaken A.kept A.kept_of rules (copy ∷ []) turn.old turn.new) }
         ensures stays { (rules : List Rule) → A.StandsFor turn.old.asker rules →
             A.StandsFor turn.new.asker rules }
+        ensures picks { A.picks turn.new.asker ≡ A.picks turn.old.asker }
     {
         let ask = message.passing_ask(
             self.format(),
@@ -315,6 +317,7 @@ impl Relay {
             OnOk result (AreTaken A.kept A.kept_of rules (step ∷ []) turn.old turn.new) }
         ensures stays { (rules : List Rule) → A.StandsFor turn.old.asker rules →
             A.StandsFor turn.new.asker rules }
+        ensures picks { A.picks turn.new.asker ≡ A.picks turn.old.asker }
     {
         let ask = message.passing_ask(self.format(), Operation::Route, bound_for(message.npdu));
         if self.authorize_forward(&mut turn.asker, &ask, &message.npdu.payload)? {
@@ -340,6 +343,7 @@ impl Relay {
             OnOk result (AreTaken A.kept A.kept_of rules steps turn.old turn.new) }
         ensures stays { (rules : List Rule) → A.StandsFor turn.old.asker rules →
             A.StandsFor turn.new.asker rules }
+        ensures picks { A.picks turn.new.asker ≡ A.picks turn.old.asker }
         ensures silent { let d = destination_view destination.now in
             let steps = steps_by self.now (message_view message.now) d way.now in
             asks_of steps ≡ [] → IsOk result }
@@ -372,6 +376,7 @@ impl Relay {
             OnOk result (IsWalked A.kept A.kept_of rules due turn.old turn.new) }
         ensures stays { (rules : List Rule) → A.StandsFor turn.old.asker rules →
             A.StandsFor turn.new.asker rules }
+        ensures picks { A.picks turn.new.asker ≡ A.picks turn.old.asker }
         ensures silent { route_asks self.now (message_view message.now) ≡ [] → IsOk result }
         ensures unasked { route_asks self.now (message_view message.now) ≡ [] → turn.new ≡ turn.old }
     {

@@ -1,6 +1,6 @@
 -- The count goes on line by line.
 use Rattle.std.proofs.Common.{◌≡◌, ◌∙◌, ◌+◌, ◌<◌, ◌≤◌, ℕ, List, [], ◌∷◌, ◌++◌, length, take, drop, Option, Some, None, Result, Ok, Err, Bool, true, false, refl, sym, ap, subst, append_assoc, arith}
-use Rattle.std.specs.Prelude.{IfSome, slice_index}
+use Rattle.std.specs.Prelude.{◌==◌, IfSome, if◌then◌else◌, slice_index}
 use Rattle.std.proofs.lemmas.List.{append-nil, drop_at, take_at}
 use Rattle.gw_core.specs.Asked.{asked_at, run_asked}
 use Rattle.gw_core.specs.History.{next, state_from, no_counts}
@@ -13,9 +13,8 @@ use Rattle.gw_replay.specs.Decisions.{AreCountedFrom, AreFirst, BeginsWithNone, 
 use Rattle.gw_replay.specs.Entry.{AreEntries, Announces, Comes, Entry, IsEntry, events_among, moved_by}
 use Rattle.gw_script.specs.Reader.{BeginsLong}
 use Rattle.gw_script.specs.Script.{lines_of}
-use Rattle.gw_decisions.specs.tally.Tally.{IsTally, tally_text}
+use Rattle.gw_decisions.specs.tally.Tally.{IsTally, one_more, place_of, tally_text}
 use Rattle.gw_decisions.specs.Counted.{AreCounted, counted_on}
-use Rattle.gw_decisions.proofs.CountedLemmas.{counted_along, counted_none}
 
 -- these lines are done, the asks of their events are counted, and this text is left
 pub record Progress (announces : Bool) (ports : ℕ) (start : State) (script first : List ℕ) (known : Option (List ℕ)) (w : State) (counts : List ℕ) : Type 0 where
@@ -60,6 +59,11 @@ moved_more w [] Announces = refl
 moved_more w (Comes x ∷ l) e = moved_more (next w x) l e
 moved_more w (Announces ∷ l) e = moved_more w l e
 
+-- counts go on from list to list
+counted_along : (k count : ℕ) (one two : List Asked) → counted_on k count (one ++ two) ≡ counted_on k (counted_on k count one) two
+counted_along k count [] two = refl
+counted_along k count (a ∷ one) two = counted_along k (if place_of a.verdict.by == k then one_more count else count) one two
+
 -- what is counted of two lists, one after the other
 counted_both : (a b c : List ℕ) (one two : List Asked) → AreCounted a one b → AreCounted b two c → AreCounted a (one ++ two) c
 counted_both a b c one two p q = record {
@@ -82,7 +86,7 @@ module _ (announces : Bool) (ports : ℕ) (start : State) (script first : List �
     lines = refl;
     known_is = is;
     state = refl;
-    counted = counted_none first;
+    counted = record { places = refl; each = λ k within. refl };
   }
 
   module _ (known left : Option (List ℕ)) (w moved : State) (before after : List ℕ)

@@ -13,7 +13,7 @@ ghost use Rattle.gw_decisions.specs.Counted.{AreCounted};
 
 use crate::entry::{Entry, parse_entry};
 use gw_configuration::Config;
-use gw_core::{AsksSeen, Counts, Event, Gateway, take_event};
+use gw_core::{Counts, Event, Gateway, SeenBy, Unguarded, take_event};
 use gw_decisions::count_asked;
 use gw_decisions::tally::{Tally, put_tally};
 use gw_script::{LineReader, MAX_DATAGRAM, NextLine, OctetSource};
@@ -66,7 +66,8 @@ fn count_event(
     ensures rules { gateway.new.rules ≡ gateway.old.rules }
     ensures places { length tally.new ≡ length tally.old }
 {
-    match take_event::<AsksSeen>(alloc, gateway, event) {
+    let decided = SeenBy { guard: &Unguarded };
+    match take_event(alloc, gateway, event, &decided) {
         Ok(watched) => {
             count_asked(tally, &watched.asked);
             Ok(())

@@ -95,7 +95,7 @@ fn append_step(
     ensures capacity { vec_capacity text.old ≤ vec_capacity text.new }
 {
     let alloc = taken.alloc();
-    match take_event_to::<DenialsAlone>(alloc, gateway, event, taken) {
+    match take_event_to(alloc, gateway, event, &DenialsAlone, taken) {
         Ok(()) => {}
         Err(StepFault::Memory) => return Err(RunFault::Memory),
         Err(StepFault::CountEnd) => return Err(RunFault::CountEnd),
@@ -188,7 +188,7 @@ impl EventText for Explaining {
     ) -> Result<(), RunFault> {
         text.clear();
         let alloc = self.alloc();
-        let asked = match take_event_to::<AllAsks>(alloc, gateway, event, &mut self.taken) {
+        let asked = match take_event_to(alloc, gateway, event, &AllAsks, &mut self.taken) {
             Ok(asked) => asked,
             Err(StepFault::Memory) => return Err(RunFault::Memory),
             Err(StepFault::CountEnd) => return Err(RunFault::CountEnd),

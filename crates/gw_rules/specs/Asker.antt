@@ -1,5 +1,5 @@
 -- What an asker keeps of the asks that are put to it.
-use Rattle.std.specs.Prelude.{false, List, map}
+use Rattle.std.specs.Prelude.{◌&&◌, Bool, false, List, map, not}
 use Rattle.gw_rules.specs.declared.refusal.Refusal.{Refusal}
 use Rattle.gw_rules.specs.declared.rule.Rule.{Rule}
 use Rattle.gw_rules.specs.declared.verdict.Verdict.{Verdict}
@@ -18,6 +18,10 @@ verdict rules ask = record {
 -- of each ask, in order
 abbrev pub verdicts_of : List Rule → List Ask → List Verdict
 verdicts_of rules asks = map (verdict rules) asks
+
+-- a verdict that is logged: it denies, and not by a quiet rule
+abbrev pub is_refused : Verdict → Bool
+is_refused v = not v.is_allowed && not v.is_quiet
 
 -- a refusal is the verdict on an ask that is denied by a rule that isn't quiet, or by none
 abbrev pub verdict_of_refusal : Refusal → Verdict

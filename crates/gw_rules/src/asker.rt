@@ -1,9 +1,9 @@
 //! Who puts asks to a policy, and what is kept of them.
-ghost use Rattle.std.specs.Prelude.{◌≡◌, [], ◌∷◌, ◌++◌, IfOk, IsOk, List, OnErr, OnOk};
+ghost use Rattle.std.specs.Prelude.{◌≡◌, [], ◌∷◌, ◌++◌, Bool, IfOk, IsOk, List, OnErr, OnOk, true};
 ghost use Rattle.gw_rules.specs.declared.rule.Rule.{Rule};
 ghost use Rattle.gw_rules.specs.declared.verdict.Verdict.{Verdict};
 ghost use Rattle.gw_rules.specs.Ask.{Ask};
-ghost use Rattle.gw_rules.specs.Asker.{verdicts_of};
+ghost use Rattle.gw_rules.specs.Asker.{is_refused, verdicts_of};
 ghost use Rattle.gw_rules.specs.Authorizer.{denied_of};
 ghost use Rattle.gw_rules.specs.Keeping.{both_refusals_kept, both_verdicts_kept, kept_refusals, no_refusal_kept, no_verdict_kept};
 ghost use Rattle.gw_rules.specs.RuleList.{allows};
@@ -19,6 +19,9 @@ pub trait Asker {
 
     /// What it has kept.
     ghost kept: { Self → List Verdict };
+
+    /// Which verdicts it picks of those that it could keep. No ask changes that.
+    ghost picks: { Self → Verdict → Bool };
 
     /// What is kept of a list of asks.
     ghost kept_of: { List Rule → List Ask → List Verdict };
@@ -36,6 +39,7 @@ pub trait Asker {
         ensures unkept { (rules : List Rule) → StandsFor self.old rules →
             kept_of rules (ask.now ∷ []) ≡ [] → IsOk result }
         ensures stays { (rules : List Rule) → StandsFor self.old rules → StandsFor self.new rules }
+        ensures picks { picks self.new ≡ picks self.old }
         ensures err { OnErr result (self.new ≡ self.old) };
 
     /// Of no asks nothing is kept.
@@ -50,6 +54,8 @@ impl<J: Judge> Asker for Authorizer<'_, J> {
     ghost StandsFor = { λ a rules. J.StandsFor a.judge rules };
 
     ghost kept = { λ a. kept_refusals a.denied };
+
+    ghost picks = { λ _ verdict. is_refused verdict };
 
     ghost kept_of = { λ rules asks. kept_refusals (denied_of rules asks) };
 
@@ -71,6 +77,8 @@ impl<J: Judge> Asker for Recorder<'_, J> {
     ghost StandsFor = { λ r rules. J.StandsFor r.judge rules };
 
     ghost kept = { λ r. r.verdicts };
+
+    ghost picks = { λ _ _. true };
 
     ghost kept_of = { λ rules asks. verdicts_of rules asks };
 

@@ -3,3 +3,4 @@ pub mod Beside
 pub mod Watching
 pub mod Laws
 pub mod files
+pub mod internal

@@ -8,6 +8,7 @@ use Rattle.gw_core.specs.Denials.{rule_name}
 use Rattle.gw_core.specs.declared.asked.Asked.{Asked}
 use Rattle.gw_rules.specs.RuleList.{allows, first, is_logged}
 use Rattle.gw_rules.specs.declared.rule.Rule.{Rule}
+use Rattle.gw_rules.specs.declared.verdict.Verdict.{Verdict}
 use Rattle.gw_decisions.specs.tally.Tally.{one_more}
 use Rattle.gw_watchers.specs.declared.trial.Trial.{Trial}
 
@@ -42,6 +43,16 @@ is_marked marks by = option_map_or (is_marked_at marks) by false
 -- an audit chooses the asks that were allowed by a marked rule
 abbrev pub audited_by : List Bool → Asked → Option (Option ℕ)
 audited_by marks a = if a.verdict.is_allowed && is_marked marks a.verdict.by then Some a.verdict.by else None
+
+-- ---- which may be
+
+-- a policy on trial may choose the ask of this verdict
+abbrev pub tries : Trial → Verdict → Bool
+tries trial v = if trial.has_all_denied then is_logged trial.policy v.ask else unlike v.is_allowed (allows trial.policy v.ask)
+
+-- an audit may choose the ask of this verdict
+abbrev pub audits : List Bool → Verdict → Bool
+audits marks v = v.is_allowed && is_marked marks v.by
 
 -- ---- what
 

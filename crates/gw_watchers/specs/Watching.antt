@@ -1,5 +1,5 @@
 -- What a watcher does about what an event asked.
-use Rattle.std.specs.Prelude.{◌≡◌, ◌⊎◌, ⊤, ℕ, ◌+◌, ◌-◌, ◌^◌, ◌||◌, ◌&&◌, not, Bool, true, min, is_some, List, []}
+use Rattle.std.specs.Prelude.{◌≡◌, ◌⊎◌, ⊤, ℕ, ◌+◌, ◌-◌, ◌^◌, ◌||◌, ◌&&◌, not, Bool, true, false, min, is_some, List, []}
 use Rattle.std.specs.Prelude.{if◌then◌else◌, Option, Some, None}
 use Rattle.gw_core.specs.Asked.{asked_at}
 use Rattle.gw_core.specs.Effects.{NeedsNoMemory}
@@ -10,7 +10,8 @@ use Rattle.gw_decisions.specs.Counted.{AreCounted}
 use Rattle.gw_rules.specs.declared.format.Format.{Format}
 use Rattle.gw_script.specs.Event.{Event}
 use Rattle.gw_watchers.specs.Beside.{IsRecorded}
-use Rattle.gw_watchers.specs.Records.{audit_front, audited_by, records, trial_front, tried_by}
+use Rattle.gw_watchers.specs.Records.{audit_front, audited_by, audits, records, trial_front, tried_by, tries}
+use Rattle.gw_rules.specs.declared.verdict.Verdict.{Verdict}
 use Rattle.gw_watchers.specs.files.Trial.{is_same_format}
 use Rattle.gw_watchers.specs.declared.beside.Beside.{Beside}
 use Rattle.gw_watchers.specs.declared.trial.Trial.{Trial}
@@ -37,6 +38,15 @@ with_marks marks b = record b { choice = marks }
 -- something is watched
 abbrev pub is_watching : {T A : Type 0} → Watching T A → Bool
 is_watching w = is_some w.trial || (is_some w.audit || is_some w.counts)
+
+-- the ask of this verdict may be recorded, if something is
+abbrev pub wants_in : {C S : Type 0} → (C → Verdict → Bool) → Option (Beside C S) → Verdict → Bool
+wants_in wants None v = false
+wants_in wants (Some b) v = wants b.choice v
+
+-- a trial or an audit may record the ask of this verdict
+abbrev pub is_wanted : {T A : Type 0} → Watching T A → Verdict → Bool
+is_wanted w v = wants_in tries w.trial v || wants_in audits w.audit v
 
 -- ---- each part
 

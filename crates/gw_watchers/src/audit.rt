@@ -1,12 +1,13 @@
 //! An audit: the allowed asks whose deciding rule is marked.
 
 ghost use Rattle.std.specs.Prelude.{◌≡◌, IfOk, codes};
-ghost use Rattle.gw_watchers.specs.Records.{audited_by, is_marked, is_marked_at};
+ghost use Rattle.gw_watchers.specs.Records.{audited_by, audits, is_marked, is_marked_at};
+ghost use Rattle.gw_watchers.specs.internal.Wanted.{audits_what_is_audited};
 
 use crate::choice::Choice;
 use gw_addr::put_slice;
 use gw_core::rule_name;
-use gw_rules::{RuleList, RuleName, Verdict};
+use gw_rules::{Ask, RuleList, RuleName, Verdict};
 use std::alloc::{AllocError, Global};
 use std::marker::Model;
 
@@ -61,6 +62,8 @@ impl Marks {
 impl Choice for Marks {
     ghost chosen = { audited_by };
 
+    ghost wants = { audits };
+
     ghost naming = { λ _ rules. rules };
 
     ghost front = { λ _ _ _. codes "allow " };
@@ -73,6 +76,12 @@ impl Choice for Marks {
             None
         }
     }
+
+    fn wants(&self, _ask: &Ask, by: Option<u16>, is_allowed: bool) -> bool {
+        is_allowed && self.is_marked(by)
+    }
+
+    ghost wanted = { audits_what_is_audited };
 
     fn name(&self, rules: &RuleList, by: Option<u16>) -> RuleName {
         rule_name(rules, by)

@@ -1,12 +1,18 @@
 //! A log beside the log, whose failures touch nothing else.
 
-ghost use Rattle.std.specs.Prelude.{◌≡◌, ◌++◌, ℕ, List, false, true, length};
+ghost use Rattle.std.specs.Prelude.{◌≡◌, ◌++◌, ℕ, Bool, List, false, true, length};
+ghost use Rattle.gw_core.specs.Seen.{IsSeenOf};
+ghost use Rattle.gw_core.specs.declared.asked.Asked.{Asked};
+ghost use Rattle.gw_rules.specs.declared.verdict.Verdict.{Verdict};
 ghost use Rattle.gw_watchers.specs.Records.{records};
 ghost use Rattle.gw_watchers.specs.Beside.{IsEnded, IsRecorded, ended};
+ghost use Rattle.gw_watchers.specs.Watching.{wants_in};
+ghost use Rattle.gw_watchers.specs.internal.RecordedIn.{IsRecordedIn};
 
 use crate::choice::Choice;
 use crate::writing::{Put, Writing};
 use gw_core::{Gateway, SeenAsks};
+use gw_rules::Ask;
 use gw_script::{OctetSink, write_whole};
 
 /// A log beside the log of denials: of what was asked it has a line for each ask that is chosen. If a line can't be made
@@ -47,12 +53,12 @@ impl<C: Choice, S: OctetSink> Beside<C, S> {
     pub(crate) fn record_asks(&mut self, gateway: &Gateway, asked: &SeenAsks, text: &mut Vec<u8>)
         ensures { let rules = C.naming self.old.choice gateway.now.rules in
             let front = C.front self.old.choice gateway.now.rules in
-            let due = records (C.chosen self.old.choice) front rules self.old.number gateway.now.ticks asked.now in
+            let due = records (C.chosen self.old.choice) front rules self.old.number gateway.now.ticks asked.now.kept in
             IsRecorded S.held due self.old self.new }
     {
         text.clear();
         let is_begun = self.begin_text(text);
-        let (whom, verdicts) = asked.parts();
+        let (whom, verdicts) = asked.kept();
         let writing = Writing {
             choice: &self.choice,
             rules: gateway.rules(),
@@ -91,5 +97,39 @@ impl<C: Choice, S: OctetSink> Beside<C, S> {
         } else {
             self.lost = self.lost.saturating_add(put.count);
         }
+    }
+}
+
+/// Records the asks that are chosen, if something is recorded beside the log: of all that were asked, if each that may be chosen is seen
+/// whole.
+pub(crate) fn record_in<C: Choice, S: OctetSink>(
+    beside: &mut Option<Beside<C, S>>,
+    gateway: &Gateway,
+    asked: &SeenAsks,
+    text: &mut Vec<u8>,
+)
+    ensures { (all : List Asked) (keeps : Verdict → Bool) → IsSeenOf keeps all asked.now →
+        ((v : Verdict) → wants_in C.wants beside.old v ≡ true → keeps v ≡ true) →
+        IsRecordedIn C.chosen C.front C.naming S.held gateway.now all beside.old beside.new }
+{
+    if let Some(beside) = beside {
+        beside.record_asks(gateway, asked, text);
+    }
+}
+
+/// Whether an ask may be recorded, if something is recorded beside the log.
+#[inline(always)]
+pub(crate) fn wants_in<C: Choice, S>(
+    beside: &Option<Beside<C, S>>,
+    ask: &Ask,
+    by: Option<u16>,
+    is_allowed: bool,
+) -> bool
+    ensures { (is_quiet : Bool) →
+        result ≡ wants_in C.wants beside.now (record { ask = ask.now; is_allowed = is_allowed; by = by; is_quiet = is_quiet }) }
+{
+    match beside {
+        Some(beside) => beside.choice.wants(ask, by, is_allowed),
+        None => false,
     }
 }

@@ -3,13 +3,14 @@
 ghost use Rattle.std.specs.Prelude.{◌≡◌, ◌++◌, OnOk};
 ghost use Rattle.gw_core.specs.Asked.{asked_from};
 ghost use Rattle.gw_core.specs.Receive.{Origin};
-ghost use Rattle.gw_watchers.specs.Records.{decided_otherwise, denied_by, other_front, trial_front, tried_by};
+ghost use Rattle.gw_watchers.specs.Records.{decided_otherwise, denied_by, other_front, trial_front, tried_by, tries};
+ghost use Rattle.gw_watchers.specs.internal.Wanted.{tries_what_is_tried};
 
 use crate::choice::Choice;
 use gw_addr::put_slice;
 use gw_core::rule_name;
 use gw_rule_index::Policy;
-use gw_rules::{Decision, Judge, RuleList, RuleName, Verdict};
+use gw_rules::{Ask, Decision, Judge, RuleList, RuleName, Verdict};
 use std::alloc::AllocError;
 
 /// A policy on trial, and which asks are recorded of it.
@@ -63,6 +64,8 @@ fn put_other_front(rules: &RuleList, verdict: &Verdict, out: &mut Vec<u8>) -> Re
 impl Choice for Trial {
     ghost chosen = { tried_by };
 
+    ghost wants = { tries };
+
     ghost naming = { λ trial _. trial.policy };
 
     ghost front = { trial_front };
@@ -74,6 +77,16 @@ impl Choice for Trial {
             decided_otherwise(&self.policy, verdict)
         }
     }
+
+    fn wants(&self, ask: &Ask, _by: Option<u16>, is_allowed: bool) -> bool {
+        match self.policy.decide(ask) {
+            Decision::Allow => !self.has_all_denied && !is_allowed,
+            Decision::Deny { by } if self.has_all_denied => !self.policy.is_quiet(by),
+            Decision::Deny { by: _ } => is_allowed,
+        }
+    }
+
+    ghost wanted = { tries_what_is_tried };
 
     fn name(&self, _rules: &RuleList, by: Option<u16>) -> RuleName {
         rule_name(self.policy.rules(), by)

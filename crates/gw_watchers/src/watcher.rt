@@ -1,16 +1,18 @@
 //! What watches the asks of a gateway, and withholds nothing.
 
-ghost use Rattle.std.specs.Prelude.{◌≡◌, ◌+◌, ◌-◌, option_map, false, true};
-ghost use Rattle.gw_watchers.specs.Watching.{HasWatched, Missed, Watches, Watching, ended_by, is_watching, with_marks};
+ghost use Rattle.std.specs.Prelude.{◌≡◌, ◌+◌, ◌-◌, List, option_map, false, true};
+ghost use Rattle.gw_core.specs.Seen.{IsSeenOf};
+ghost use Rattle.gw_core.specs.declared.asked.Asked.{Asked};
+ghost use Rattle.gw_watchers.specs.Watching.{HasWatched, Missed, Watches, Watching, ended_by, is_wanted, is_watching, with_marks};
 
 use crate::audit::Marks;
-use crate::beside::Beside;
+use crate::beside::{Beside, record_in, wants_in};
 use crate::files::is_same_format;
 use crate::trial::Trial;
 use gw_core::{Gateway, Guard, SeenAsks, Taken};
 use gw_decisions::count_asked;
 use gw_decisions::tally::Tally;
-use gw_rules::Format;
+use gw_rules::{Ask, Format};
 use gw_script::OctetSink;
 use std::alloc::Global;
 use std::marker::Model;
@@ -139,14 +141,10 @@ impl<T: OctetSink + Drop, A: OctetSink + Drop> Watcher<T, A> {
 
     /// Watches what an event asked.
     fn watch(&mut self, gateway: &Gateway, asked: &SeenAsks)
-        ensures { Watches T.held A.held self.old gateway.now asked.now self.new }
+        ensures { (all : List Asked) → IsSeenOf (is_wanted self.old) all asked.now → Watches T.held A.held self.old gateway.now all self.new }
     {
-        if let Some(trial) = &mut self.trial {
-            trial.record_asks(gateway, asked, &mut self.text);
-        }
-        if let Some(audit) = &mut self.audit {
-            audit.record_asks(gateway, asked, &mut self.text);
-        }
+        record_in(&mut self.trial, gateway, asked, &mut self.text);
+        record_in(&mut self.audit, gateway, asked, &mut self.text);
         if let Some(counts) = &mut self.counts {
             count_asked(counts, asked);
         }
@@ -167,8 +165,15 @@ impl<T: OctetSink + Drop, A: OctetSink + Drop> Guard for Watcher<T, A> {
 
     ghost watching = { is_watching };
 
+    ghost keeps = { is_wanted };
+
     fn watches(&self) -> bool {
         self.trial.is_some() || self.audit.is_some() || self.counts.is_some()
+    }
+
+    #[inline(always)]
+    fn keeps(&self, ask: &Ask, by: Option<u16>, is_allowed: bool) -> bool {
+        wants_in(&self.trial, ask, by, is_allowed) || wants_in(&self.audit, ask, by, is_allowed)
     }
 
     fn pass(

@@ -169,7 +169,7 @@ pub fn take(
     ensures effects { IfOk result (λ reported. reported.taken.effects ≡ effects_at gateway.old (event_view event.now)) }
     ensures moved { OnOk result (gateway.new ≡ next gateway.old (event_view event.now)) }
 {
-    let Ok(reported) = take_event::<AllAsks>(alloc, gateway, event) else {
+    let Ok(reported) = take_event(alloc, gateway, event, &AllAsks) else {
         return Err(AllocError);
     };
     put_step(alloc, gateway.rules(), &reported, text)?;

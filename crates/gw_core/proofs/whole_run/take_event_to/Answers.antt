@@ -23,4 +23,4 @@ returns-in_ok-tick-in-Tick-clause-lasts g c =
 pub returns-in_ok-tick-in-Tick-clause-asked : goal.returns-in_ok-tick-in-Tick-clause-asked
 returns-in_ok-tick-in-Tick-clause-asked g c =
     c.nothing.ensures c.args.gateway.now
-    ∙ ap (λ (e : LentEvent). g.R.Reporting.asked c.args.gateway.now (event_view e)) (sym c.in-Tick.is)
+    ∙ ap (λ (e : LentEvent). g.R.Reporting.asked c.args.reporting.now c.args.gateway.now (event_view e)) (sym c.in-Tick.is)

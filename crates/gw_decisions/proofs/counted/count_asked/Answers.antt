@@ -1,9 +1,8 @@
-use Rattle.std.proofs.Common.{List, subst, sym}
-use Rattle.gw_core.specs.declared.asked.Asked.{Asked}
-use Rattle.gw_decisions.specs.Counted.{AreCounted}
+use Rattle.std.proofs.Common.{◌∙◌, sym, subst, List, Option, ℕ}
+use Rattle.gw_decisions.specs.Counted.{AreCountedBy}
+use Rattle.gw_decisions.proofs.CountedLemmas.{asks_counted}
 use Rattle.gw_decisions.proofs.counted.count_asked.Goals as goal
 
 pub returns : goal.returns
-returns c =
-    subst (λ (l : List Asked). AreCounted c.args.tally.now l c.count_verdicts.new.tally) (sym c.parts.ensures)
-    (c.count_verdicts.ensures c.parts.result.0.now)
+returns c = λ all are.
+    asks_counted c.args.tally.now c.count_deciders.new.tally c.deciders.result.now all (c.deciders.ensures ∙ are) c.count_deciders.ensures

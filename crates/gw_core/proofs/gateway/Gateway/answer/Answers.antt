@@ -134,7 +134,10 @@ returns-clause-asked g c =
     let response = c.in_ok-respond.ensures.response w.rules stands in
     let r = turned g.A.Asker.kept g.A.Asker.kept_of w.rules w.relay w.device received c.over-turn.result c.respond.new.turn c.respond.new.write
     none begun c.over-turn.ensures.change response in
-    rw (← c.self.view_is) (c.in_ok-refusals.ensures.asked w.rules (asks_for w.rules w.relay w.device received) r.verdicts)
+    let asks = asks_for w.rules w.relay w.device received in
+    rw (← c.self.view_is) (c.in_ok-refusals.ensures.asked w.rules asks r.verdicts
+    ∙ ap (λ picks. g.A.Reporter.asked picks (origin_of c.args.received.now) w.rules asks)
+    (c.in_ok-respond.ensures.picks ∙ ap g.A.Asker.picks c.over-turn.ensures.asker))
 
 pub returns-clause-answered : goal.returns-clause-answered
 returns-clause-answered g c =

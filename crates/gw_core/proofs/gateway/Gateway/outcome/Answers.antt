@@ -63,10 +63,11 @@ returns-in-Dropped-clause-asked g c =
     (received_as w c.ports.result.now c.network_of-network.result c.args.arrival.now.port c.args.arrival.now.from c.args.arrival.now.octets.now _
     c.receive-received.ensures.received c.ports.ensures c.network_of-network.ensures) in
     let s = c.args.self.now in
+    let picks = g.A.Asker.picks c.args.asker in
     c.in_ok-asked.ensures.asked s.rules [] (c.requires.begun ∙ sym (g.met.A.Asker.kept_none s.rules))
-    ∙ ap (λ (r : LentReceived). g.A.Reporter.asked (origin_of c.receive-received.result) s.rules
+    ∙ ap (λ (r : LentReceived). g.A.Reporter.asked picks (origin_of c.receive-received.result) s.rules
     (asks_for s.rules s.relay s.device (admitted_view s r))) (sym c.in-Dropped.is)
-    ∙ reported_as (λ from asks. g.A.Reporter.asked from s.rules asks) (λ from. g.met.A.Reporter.unasked from s.rules) s event
+    ∙ reported_as (λ from asks. g.A.Reporter.asked picks from s.rules asks) (λ from. g.met.A.Reporter.unasked picks from s.rules) s event
     c.receive-received.result is
 
 pub answer-requires-clause-empty : goal.answer-requires-clause-empty
@@ -116,8 +117,9 @@ returns-clause-asked g c =
     (received_as w c.ports.result.now c.network_of-network.result c.args.arrival.now.port c.args.arrival.now.from c.args.arrival.now.octets.now _
     c.receive-received.ensures.received c.ports.ensures c.network_of-network.ensures) in
     let s = c.args.self.now in
+    let picks = g.A.Asker.picks c.args.asker in
     IfOk-weaker c.answer.result _ _ (λ asked reported. reported
-    ∙ reported_as (λ from asks. g.A.Reporter.asked from s.rules asks) (λ from. g.met.A.Reporter.unasked from s.rules) s event
+    ∙ reported_as (λ from asks. g.A.Reporter.asked picks from s.rules asks) (λ from. g.met.A.Reporter.unasked picks from s.rules) s event
     c.receive-received.result is) c.answer.ensures.asked
 
 pub returns-clause-count_end : goal.returns-clause-count_end

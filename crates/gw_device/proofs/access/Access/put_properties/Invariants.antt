@@ -26,4 +26,5 @@ invariant-loop-property g l =
       kept : (rules : List Rule) → g.A.Asker.StandsFor l.fn.asker rules
           → g.A.Asker.kept l.asker ++ kept_of rules left ≡ g.A.Asker.kept l.fn.asker ++ kept_of rules l.properties;
       stays : (rules : List Rule) → g.A.Asker.StandsFor l.fn.asker rules → g.A.Asker.StandsFor l.asker rules;
+      picks : g.A.Asker.picks l.asker ≡ g.A.Asker.picks l.fn.asker;
     }

@@ -9,21 +9,21 @@ use Rattle.gw_watchers.proofs.beside.Beside.record_asks.Goals as goal
 pub returns-then-put-eq0 : goal.returns-then-put-eq0
 returns-then-put-eq0 g c =
     let b = c.args.self.now in
-    let asked = c.args.asked.now in
+    let asked = c.args.asked.now.kept in
     let records_by = λ (rules : List Rule) (ticks : ℕ) (asked : List Asked). records (g.C.Choice.chosen b.choice) (g.C.Choice.front b.choice rules) (g.C.Choice.naming b.choice rules) b.number ticks asked in
     let put = subst (λ (rules : List Rule). IsPut (records_by rules c.args.gateway.now.ticks asked) (start b.number)
     c.begin_text-is_begun.new.text.items c.put_all-put.new.text.items c.put_all-put.result) c.rules.ensures
     (subst (λ (ticks : ℕ). IsPut (records_by c.rules.result.now ticks asked) (start b.number)
     c.begin_text-is_begun.new.text.items c.put_all-put.new.text.items c.put_all-put.result) c.counts.ensures.ticks
     (subst (λ (l : List Asked). IsPut (records_by c.rules.result.now c.counts.result.ticks l) (start b.number)
-    c.begin_text-is_begun.new.text.items c.put_all-put.new.text.items c.put_all-put.result) (sym c.parts.ensures) c.put_all-put.ensures)) in
+    c.begin_text-is_begun.new.text.items c.put_all-put.new.text.items c.put_all-put.result) (sym c.kept.ensures) c.put_all-put.ensures)) in
     no_records g.S.OctetSink.held (records_by c.args.gateway.now.rules c.args.gateway.now.ticks asked) c.put_all-put.result.count b (omega (arith, put.count))
     (omega (arith, c.if-put-eq0.true))
 
 pub returns : goal.returns
 returns g c =
     let b = c.args.self.now in
-    let asked = c.args.asked.now in
+    let asked = c.args.asked.now.kept in
     let records_by = λ (rules : List Rule) (ticks : ℕ) (asked : List Asked). records (g.C.Choice.chosen b.choice) (g.C.Choice.front b.choice rules) (g.C.Choice.naming b.choice rules) b.number ticks asked in
     let due = records_by c.args.gateway.now.rules c.args.gateway.now.ticks asked in
     let put = subst (λ (rules : List Rule). IsPut (records_by rules c.args.gateway.now.ticks asked) (start b.number)
@@ -31,7 +31,7 @@ returns g c =
     (subst (λ (ticks : ℕ). IsPut (records_by c.rules.result.now ticks asked) (start b.number)
     c.begin_text-is_begun.new.text.items c.put_all-put.new.text.items c.put_all-put.result) c.counts.ensures.ticks
     (subst (λ (l : List Asked). IsPut (records_by c.rules.result.now c.counts.result.ticks l) (start b.number)
-    c.begin_text-is_begun.new.text.items c.put_all-put.new.text.items c.put_all-put.result) (sym c.parts.ensures) c.put_all-put.ensures)) in
+    c.begin_text-is_begun.new.text.items c.put_all-put.new.text.items c.put_all-put.result) (sym c.kept.ensures) c.put_all-put.ensures)) in
     ended_records g.S.OctetSink.held due c.put_all-put.result.last c.put_all-put.result.count b c.end_lines.new.self put.last (omega (arith, put.count))
     (omega (arith, c.if-put-eq0.false))
     (c.end_lines.ensures (ended b.is_cut ++ lines_of due) (λ begun whole.

@@ -1,0 +1,3 @@
+-- What only private parts and proofs cite.
+pub mod Wanted
+pub mod RecordedIn
