@@ -109,19 +109,16 @@ fn serve_stretches(
     requires turns { turns < 2 ^ 63 }
     requires failures { edges.old.wire.failures < 2 ^ 127 }
 {
-    let mut state = ServeState::new(alloc);
+    let mut state = ServeState::new(alloc, turns);
     for _ in 0..turns {
-        let left = turns - state.served.turns;
-        if left == 0 {
+        if state.left == 0 {
             return Ok(Ok(()));
         }
         let pause = match state.serve_to_tick(
-            alloc,
             gateway,
             &mut edges.wire,
             &mut edges.log,
             &mut edges.keeper,
-            left,
         ) {
             Ok(pause) => pause,
             Err(fault) => return Ok(Err(fault)),

@@ -158,20 +158,12 @@ fn serve_reporting(
     requires turns { turns < 2 ^ 63 }
     requires failures { edges.old.wire.failures < 2 ^ 127 }
 {
-    let mut state = ServeState::new(alloc);
+    let mut state = ServeState::new(alloc, turns);
     for _ in 0..turns {
-        let left = turns - state.served.turns;
-        if left == 0 {
+        if state.left == 0 {
             break;
         }
-        let answer = state.serve_to_tick(
-            alloc,
-            gateway,
-            &mut edges.wire,
-            &mut edges.log,
-            &mut Unguarded,
-            left,
-        );
+        let answer = state.serve_to_tick(gateway, &mut edges.wire, &mut edges.log, &mut Unguarded);
         report_after(&answer, gateway, &state, &mut edges.reports, seconds)?;
         if let Err(fault) = answer {
             let served = state.served;

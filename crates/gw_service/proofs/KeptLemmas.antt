@@ -16,13 +16,13 @@ use Rattle.gw_turns.specs.declared.serving.Served.{Served}
 use Rattle.gw_turns.specs.declared.tally.Tally.{Tally}
 use Rattle.gw_system.specs.Requests.{Asking, recorded_by}
 use Rattle.gw_service.specs.Chain.{Begins, Link, Manner, Runs, Stage, chain_text, stage}
-use Rattle.gw_service.specs.Keeping.{failing_in, troubles_in, unkept_in}
+use Rattle.gw_service.specs.Keeping.{failing_in}
 use Rattle.gw_service.specs.declared.running.End.{End}
 use Rattle.gw_service.specs.Watch.{more_of, troubles_of}
 use Rattle.gw_notices.specs.declared.troubles.Troubles.{Troubles}
 use Rattle.gw_service.specs.Holding.{more_holding, unheld}
 use Rattle.gw_service.specs.declared.holding.Holding.{Holding}
-use Rattle.gw_service.specs.Kept.{EndsRun, Given, KeepsFirst, LeavesKept, Rest, RunsBy, RunsFrom, RunsFromHolding, holding_manner_of, manner_of, no_more, outcome_by, reporting_of, unkept_of, watched_holding_manner_of, watched_manner_of}
+use Rattle.gw_service.specs.Kept.{EndsRun, Given, KeepsFirst, LeavesKept, Rest, RunsBy, RunsFrom, RunsFromHolding, outcome_by, reporting_of, unkept_of, watched_holding_manner_of, watched_manner_of}
 use Rattle.gw_notices.specs.Notices.{no_troubles, notice_of}
 use Rattle.gw_notices.specs.metrics.Writing.{Metering, nothing_written}
 use Rattle.gw_service.specs.Metering.{metered}
@@ -105,81 +105,45 @@ is_reporting stats rules verbose start other keeps kept reloads read starts is_k
     ∙ ap (λ (x : Bool). reporting stats rules other kept x verbose) is_read
 
 -- A gateway that began so ran so.
-pub ran_kept : {S Q L : Type 0} (given : Given S Q L) (c : Configuration) (how : Service) (start : Counts) (keeps reloads : Bool) (w : State) (k : Kept S)
-    (s : Served) (t : Tally) (q : Asking) (u : ReloadCounts) (a : Announcing) (m : Option Metering) (before after : Ends) (answer : Result End ServeFault)
-    (left : Rest (Kept S)) (outcome : Result (Unit {0}) ServiceFault) (Never : Type 0) (held holds : Option (List ℕ)) → given.watcher ≡ None → start ≡ counts_of w
-    → BeginsAs c given.saved given.line w → KeepsFirst given.held given.store c w k → s ≡ zero_counts → t ≡ no_tally
-    → q ≡ recorded_by given.said given.requests → u ≡ counts_since w.ticks given.checksum → a ≡ first_announcing
-    → m ≡ metered (option_map nothing_written given.metrics) → keeps ≡ (is_some given.requests || is_some given.store)
-    → reloads ≡ is_some given.requests → how.holds ≡ false → outcome ≡ outcome_by answer (failing_in left.keeper)
-    → ((text : List ℕ) × RunsFrom (manner_of given.held (reporting how.stats how.rules start keeps reloads how.verbose))
-    (end_stats unkept_in no_more (reporting how.stats how.rules start keeps reloads how.verbose)) start how.turns
-    (stage c (moment (scene w before.log before.calls) k s t) q u a (troubles_in k) m) answer after left text × (Never → Appends held holds text))
-    → (text : List ℕ) × LeavesKept given c how before after text outcome × (Never → Appends held holds text)
-ran_kept {S} given c how start keeps reloads w k s t q u a m before after answer left outcome Never held holds unwatched is_start begins is_kept served tally
-    requests is_counts is_announcing is_metered is_keeps is_reloads ends answers ran =
-    let at = stage c (moment (scene w before.log before.calls) k s t) q u a (troubles_in k) m in
-    let same = is_reporting how.stats how.rules how.verbose start (counts_of w) keeps (is_some given.requests || is_some given.store) reloads (is_some given.requests)
-    is_start is_keeps is_reloads in (
-      ran.0,
-      inl (subst (λ (o : Option (Watching _ _)). RunsBy given o how.holds c how before after ran.0 outcome) (sym unwatched)
-          (subst (λ (h : Bool). RunsBy given None h c how before after ran.0 outcome) (sym ends) (record {
-            gateway = w;
-            begins = begins;
-            keeper = k;
-            keeps = is_kept;
-            answer = answer;
-            left = left;
-            runs = from_start (manner_of given.held (reporting_of given how w)) (end_stats unkept_in no_more (reporting_of given how w)) (counts_of w) how.turns c
-                (scene w before.log before.calls) k s zero_counts t no_tally q (recorded_by given.said given.requests) u (counts_since w.ticks given.checksum) a first_announcing (troubles_in k)
-                m (metered (option_map nothing_written given.metrics)) answer after left ran.0 served tally requests is_counts is_announcing is_metered
-                (subst (λ (x : Counts). RunsFrom (manner_of given.held (reporting_of given how w)) (end_stats unkept_in no_more (reporting_of given how w)) x how.turns at
-                answer after left ran.0) is_start
-                (subst (λ (x : Reporting). RunsFrom (manner_of given.held x) (end_stats unkept_in no_more x) start how.turns at answer after left ran.0) same
-                ran.1));
-            answers = answers;
-          }))),
-      ran.2,
-    )
-
--- So did one that is watched.
-pub ran_watched : {S Q L : Type 0} (given : Given S Q L) (watcher : Watching L L) (c : Configuration) (how : Service) (start : Counts)
-    (keeps reloads : Bool) (w : State) (k : Both (Watching L L) (Kept S)) (s : Served) (t : Tally) (q : Asking) (u : ReloadCounts)
+pub ran_watched : {S Q L : Type 0} (given : Given S Q L) (c : Configuration) (how : Service) (start : Counts)
+    (keeps reloads : Bool) (turns : ℕ) (w : State) (k : Both (Watching L L) (Kept S)) (s : Served) (t : Tally) (q : Asking) (u : ReloadCounts)
     (a : Announcing) (m : Option Metering) (before after : Ends) (answer : Result End ServeFault)
     (left : Rest (Both (Watching L L) (Kept S))) (outcome : Result (Unit {0}) ServiceFault) (Never : Type 0)
-    (held holds : Option (List ℕ)) → given.watcher ≡ Some watcher → start ≡ counts_of w
-    → BeginsAs c given.saved given.line w → KeepsFirst given.held given.store c w k.second → k.first ≡ watcher → s ≡ zero_counts → t ≡ no_tally
+    (held holds : Option (List ℕ)) → turns ≡ how.turns → start ≡ counts_of w
+    → BeginsAs c given.saved given.line w → KeepsFirst given.held given.store c w k.second → k.first ≡ given.watcher → s ≡ zero_counts → t ≡ no_tally
     → q ≡ recorded_by given.said given.requests → u ≡ counts_since w.ticks given.checksum → a ≡ first_announcing
     → m ≡ metered (option_map nothing_written given.metrics) → keeps ≡ (is_some given.requests || is_some given.store)
     → reloads ≡ is_some given.requests → how.holds ≡ false → outcome ≡ outcome_by answer (failing_in left.keeper.second)
     → ((text : List ℕ) × RunsFrom (watched_manner_of given.held given.log_held (reporting how.stats how.rules start keeps reloads how.verbose))
-    (end_stats unkept_of more_of (reporting how.stats how.rules start keeps reloads how.verbose)) start how.turns
+    (end_stats unkept_of more_of (reporting how.stats how.rules start keeps reloads how.verbose)) start turns
     (stage c (moment (scene w before.log before.calls) k s t) q u a (troubles_of k) m) answer after left text × (Never → Appends held holds text))
     → (text : List ℕ) × LeavesKept given c how before after text outcome × (Never → Appends held holds text)
-ran_watched {S} given watcher c how start keeps reloads w k s t q u a m before after answer left outcome Never held holds watched is_start begins is_kept watches
+ran_watched {S} given c how start keeps reloads turns w k s t q u a m before after answer left outcome Never held holds is_turns is_start begins is_kept watches
     served tally requests is_counts is_announcing is_metered is_keeps is_reloads ends answers ran =
     let at = stage c (moment (scene w before.log before.calls) k s t) q u a (troubles_of k) m in
     let same = is_reporting how.stats how.rules how.verbose start (counts_of w) keeps (is_some given.requests || is_some given.store) reloads (is_some given.requests)
     is_start is_keeps is_reloads in (
       ran.0,
-      inl (subst (λ (o : Option (Watching _ _)). RunsBy given o how.holds c how before after ran.0 outcome) (sym watched)
-          (subst (λ (h : Bool). RunsBy given (Some watcher) h c how before after ran.0 outcome) (sym ends) (record {
-            gateway = w;
-            begins = begins;
-            keeper = k;
-            keeps = is_kept;
-            watches = watches;
-            answer = answer;
-            left = left;
-            runs = from_start (watched_manner_of given.held given.log_held (reporting_of given how w)) (end_stats unkept_of more_of (reporting_of given how w))
-                (counts_of w) how.turns c (scene w before.log before.calls) k s zero_counts t no_tally q (recorded_by given.said given.requests) u (counts_since w.ticks given.checksum) a
-                first_announcing (troubles_of k) m (metered (option_map nothing_written given.metrics)) answer after left ran.0 served tally requests is_counts is_announcing is_metered
-                (subst (λ (x : Counts). RunsFrom (watched_manner_of given.held given.log_held (reporting_of given how w))
-                (end_stats unkept_of more_of (reporting_of given how w)) x how.turns at answer after left ran.0) is_start
-                (subst (λ (x : Reporting). RunsFrom (watched_manner_of given.held given.log_held x) (end_stats unkept_of more_of x) start how.turns at answer
-                after left ran.0) same ran.1));
-            answers = answers;
-          }))),
+      inl (subst (λ (h : Bool). RunsBy given h c how before after ran.0 outcome) (sym ends) (record {
+        gateway = w;
+        begins = begins;
+        keeper = k;
+        keeps = is_kept;
+        watches = watches;
+        answer = answer;
+        left = left;
+        runs = from_start (watched_manner_of given.held given.log_held (reporting_of given how w)) (end_stats unkept_of more_of (reporting_of given how w))
+            (counts_of w) how.turns c (scene w before.log before.calls) k s zero_counts t no_tally q (recorded_by given.said given.requests) u (counts_since w.ticks given.checksum) a
+            first_announcing (troubles_of k) m (metered (option_map nothing_written given.metrics)) answer after left ran.0 served tally requests is_counts is_announcing is_metered
+            (subst (λ (x : Counts). RunsFrom (watched_manner_of given.held given.log_held (reporting_of given how w))
+            (end_stats unkept_of more_of (reporting_of given how w)) x how.turns at answer after left ran.0) is_start
+            (subst (λ (x : Reporting). RunsFrom (watched_manner_of given.held given.log_held x) (end_stats unkept_of more_of x) start how.turns at answer
+            after left ran.0) same
+            (subst (λ (n : ℕ). RunsFrom (watched_manner_of given.held given.log_held (reporting how.stats how.rules start keeps reloads how.verbose))
+            (end_stats unkept_of more_of (reporting how.stats how.rules start keeps reloads how.verbose)) start n at answer after left ran.0) is_turns
+            ran.1)));
+        answers = answers;
+      })),
       ran.2,
     )
 
@@ -195,58 +159,20 @@ from_stage Runs c now k s z t n q r u v a b f m e served tally requests counts a
     (subst (λ (x : Announcing). Runs (stage c (moment now k s t) q u x f e)) announcing
     (subst (λ (x : Option Metering). Runs (stage c (moment now k s t) q u a f x)) metrics runs)))))
 
-pub held_kept : {S Q L : Type 0} (given : Given S Q L) (c : Configuration) (how : Service) (start : Counts) (keeps reloads : Bool) (w : State) (k : Kept S)
-    (s : Served) (t : Tally) (q : Asking) (u : ReloadCounts) (a : Announcing) (m : Option Metering) (before after : Ends) (answer : Result End ServeFault)
-    (left : Rest (Holding (Kept S))) (outcome : Result (Unit {0}) ServiceFault) (Never : Type 0) (held holds : Option (List ℕ)) → given.watcher ≡ None → start ≡ counts_of w
-    → BeginsAs c given.saved given.line w → KeepsFirst given.held given.store c w k → s ≡ zero_counts → t ≡ no_tally
-    → q ≡ recorded_by given.said given.requests → u ≡ counts_since w.ticks given.checksum → a ≡ first_announcing
-    → m ≡ metered (option_map nothing_written given.metrics) → keeps ≡ (is_some given.requests || is_some given.store)
-    → reloads ≡ is_some given.requests → how.holds ≡ true → outcome ≡ outcome_by answer (failing_in left.keeper.keeper)
-    → ((text : List ℕ) × RunsFromHolding (holding_manner_of given.held (reporting how.stats how.rules start keeps reloads how.verbose))
-    (end_stats (λ h. unkept_in h.keeper) (more_holding no_more) (reporting how.stats how.rules start keeps reloads how.verbose)) start how.turns
-    (stage c (moment (scene w before.log before.calls) (unheld k) s t) q u a (troubles_in k) m) answer after left text × (Never → Appends held holds text))
-    → (text : List ℕ) × LeavesKept given c how before after text outcome × (Never → Appends held holds text)
-held_kept {S} given c how start keeps reloads w k s t q u a m before after answer left outcome Never held holds unwatched is_start begins is_kept served tally
-    requests is_counts is_announcing is_metered is_keeps is_reloads goes_on answers ran =
-    let at = stage c (moment (scene w before.log before.calls) (unheld k) s t) q u a (troubles_in k) m in
-    let report : Reporting → _ = λ (x : Reporting). end_stats (λ (h : Holding (Kept S)). unkept_in h.keeper) (more_holding no_more) x in
-    let now = reporting_of given how w in
-    let same = is_reporting how.stats how.rules how.verbose start (counts_of w) keeps (is_some given.requests || is_some given.store) reloads (is_some given.requests)
-    is_start is_keeps is_reloads in (
-      ran.0,
-      inl (subst (λ (o : Option (Watching _ _)). RunsBy given o how.holds c how before after ran.0 outcome) (sym unwatched)
-          (subst (λ (h : Bool). RunsBy given None h c how before after ran.0 outcome) (sym goes_on) (record {
-            gateway = w;
-            begins = begins;
-            keeper = k;
-            keeps = is_kept;
-            answer = answer;
-            left = left;
-            runs = from_stage (λ x. RunsFromHolding (holding_manner_of given.held now) (report now) (counts_of w) how.turns x answer after left ran.0)
-                c (scene w before.log before.calls) (unheld k) s zero_counts t no_tally q (recorded_by given.said given.requests) u (counts_since w.ticks given.checksum) a
-                first_announcing (troubles_in k) m (metered (option_map nothing_written given.metrics)) served tally requests is_counts is_announcing is_metered
-                (subst (λ (x : Counts). RunsFromHolding (holding_manner_of given.held now) (report now) x how.turns at answer after left ran.0) is_start
-                (subst (λ (x : Reporting). RunsFromHolding (holding_manner_of given.held x) (report x) start how.turns at answer after left ran.0) same
-                ran.1));
-            answers = answers;
-          }))),
-      ran.2,
-    )
-
-pub held_watched : {S Q L : Type 0} (given : Given S Q L) (watcher : Watching L L) (c : Configuration) (how : Service) (start : Counts)
-    (keeps reloads : Bool) (w : State) (k : Both (Watching L L) (Kept S)) (s : Served) (t : Tally) (q : Asking) (u : ReloadCounts)
+pub held_watched : {S Q L : Type 0} (given : Given S Q L) (c : Configuration) (how : Service) (start : Counts)
+    (keeps reloads : Bool) (turns : ℕ) (w : State) (k : Both (Watching L L) (Kept S)) (s : Served) (t : Tally) (q : Asking) (u : ReloadCounts)
     (a : Announcing) (m : Option Metering) (before after : Ends) (answer : Result End ServeFault)
     (left : Rest (Holding (Both (Watching L L) (Kept S)))) (outcome : Result (Unit {0}) ServiceFault) (Never : Type 0)
-    (held holds : Option (List ℕ)) → given.watcher ≡ Some watcher → start ≡ counts_of w
-    → BeginsAs c given.saved given.line w → KeepsFirst given.held given.store c w k.second → k.first ≡ watcher → s ≡ zero_counts → t ≡ no_tally
+    (held holds : Option (List ℕ)) → turns ≡ how.turns → start ≡ counts_of w
+    → BeginsAs c given.saved given.line w → KeepsFirst given.held given.store c w k.second → k.first ≡ given.watcher → s ≡ zero_counts → t ≡ no_tally
     → q ≡ recorded_by given.said given.requests → u ≡ counts_since w.ticks given.checksum → a ≡ first_announcing
     → m ≡ metered (option_map nothing_written given.metrics) → keeps ≡ (is_some given.requests || is_some given.store)
     → reloads ≡ is_some given.requests → how.holds ≡ true → outcome ≡ outcome_by answer (failing_in left.keeper.keeper.second)
     → ((text : List ℕ) × RunsFromHolding (watched_holding_manner_of given.held given.log_held (reporting how.stats how.rules start keeps reloads how.verbose))
-    (end_stats (λ h. unkept_of h.keeper) (more_holding more_of) (reporting how.stats how.rules start keeps reloads how.verbose)) start how.turns
+    (end_stats (λ h. unkept_of h.keeper) (more_holding more_of) (reporting how.stats how.rules start keeps reloads how.verbose)) start turns
     (stage c (moment (scene w before.log before.calls) (unheld k) s t) q u a (troubles_of k) m) answer after left text × (Never → Appends held holds text))
     → (text : List ℕ) × LeavesKept given c how before after text outcome × (Never → Appends held holds text)
-held_watched {S} {Q} {L} given watcher c how start keeps reloads w k s t q u a m before after answer left outcome Never held holds watched is_start begins is_kept
+held_watched {S} {Q} {L} given c how start keeps reloads turns w k s t q u a m before after answer left outcome Never held holds is_turns is_start begins is_kept
     watches served tally requests is_counts is_announcing is_metered is_keeps is_reloads goes_on answers ran =
     let at = stage c (moment (scene w before.log before.calls) (unheld k) s t) q u a (troubles_of k) m in
     let report : Reporting → _ = λ (x : Reporting). end_stats (λ (h : Holding (Both (Watching L L) (Kept S))). unkept_of h.keeper) (more_holding more_of) x in
@@ -254,25 +180,27 @@ held_watched {S} {Q} {L} given watcher c how start keeps reloads w k s t q u a m
     let same = is_reporting how.stats how.rules how.verbose start (counts_of w) keeps (is_some given.requests || is_some given.store) reloads (is_some given.requests)
     is_start is_keeps is_reloads in (
       ran.0,
-      inl (subst (λ (o : Option (Watching _ _)). RunsBy given o how.holds c how before after ran.0 outcome) (sym watched)
-          (subst (λ (h : Bool). RunsBy given (Some watcher) h c how before after ran.0 outcome) (sym goes_on) (record {
-            gateway = w;
-            begins = begins;
-            keeper = k;
-            keeps = is_kept;
-            watches = watches;
-            answer = answer;
-            left = left;
-            runs = from_stage (λ x. RunsFromHolding (watched_holding_manner_of given.held given.log_held now) (report now) (counts_of w) how.turns x answer
-                after left ran.0)
-                c (scene w before.log before.calls) (unheld k) s zero_counts t no_tally q (recorded_by given.said given.requests) u (counts_since w.ticks given.checksum) a
-                first_announcing (troubles_of k) m (metered (option_map nothing_written given.metrics)) served tally requests is_counts is_announcing is_metered
-                (subst (λ (x : Counts). RunsFromHolding (watched_holding_manner_of given.held given.log_held now) (report now) x how.turns at answer after left
-                ran.0) is_start
-                (subst (λ (x : Reporting). RunsFromHolding (watched_holding_manner_of given.held given.log_held x) (report x) start how.turns at answer after
-                left ran.0) same ran.1));
-            answers = answers;
-          }))),
+      inl (subst (λ (h : Bool). RunsBy given h c how before after ran.0 outcome) (sym goes_on) (record {
+        gateway = w;
+        begins = begins;
+        keeper = k;
+        keeps = is_kept;
+        watches = watches;
+        answer = answer;
+        left = left;
+        runs = from_stage (λ x. RunsFromHolding (watched_holding_manner_of given.held given.log_held now) (report now) (counts_of w) how.turns x answer
+            after left ran.0)
+            c (scene w before.log before.calls) (unheld k) s zero_counts t no_tally q (recorded_by given.said given.requests) u (counts_since w.ticks given.checksum) a
+            first_announcing (troubles_of k) m (metered (option_map nothing_written given.metrics)) served tally requests is_counts is_announcing is_metered
+            (subst (λ (x : Counts). RunsFromHolding (watched_holding_manner_of given.held given.log_held now) (report now) x how.turns at answer after left
+            ran.0) is_start
+            (subst (λ (x : Reporting). RunsFromHolding (watched_holding_manner_of given.held given.log_held x) (report x) start how.turns at answer after
+            left ran.0) same
+            (subst (λ (n : ℕ). RunsFromHolding (watched_holding_manner_of given.held given.log_held
+            (reporting how.stats how.rules start keeps reloads how.verbose))
+            (report (reporting how.stats how.rules start keeps reloads how.verbose)) start n at answer after left ran.0) is_turns ran.1)));
+        answers = answers;
+      })),
       ran.2,
     )
 

@@ -3,6 +3,8 @@ mod EndLemmas
 mod HoldingLemmas
 mod HoldingRunLemmas
 mod KeptLemmas
+mod AlongLemmas
+mod NothingLemmas
 mod LawLemmas
 mod MeteringLemmas
 mod PlainLemmas

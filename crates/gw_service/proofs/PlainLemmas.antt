@@ -1,6 +1,6 @@
 -- A run whose options name neither a state nor a request file, and that nothing watches: it is one of `serve`, and reports nothing unless
 -- it is verbose.
-use Rattle.std.proofs.Common.{◌≡◌, ◌∙◌, ℕ, List, [], ◌∷◌, ◌++◌, Bool, true, false, true≢false, Option, Some, None, refl, sym, ap, ap₂, subst, inl, inr}
+use Rattle.std.proofs.Common.{◌≡◌, ◌∙◌, ℕ, List, [], ◌∷◌, ◌++◌, Bool, true, false, Option, Some, None, refl, sym, ap, ap₂, subst, inl, inr}
 use Rattle.std.proofs.lemmas.List.{append-nil}
 use Rattle.std.proofs.lemmas.List.Concat.{flat_map-cons}
 use Rattle.std.specs.Prelude.{Result, Ok, Err, if◌then◌else◌, is_some, not, ◌&&◌, ◌||◌, option_map, string_bytes}
@@ -22,25 +22,29 @@ use Rattle.gw_notices.specs.metrics.Writing.{Metering, nothing_written}
 use Rattle.gw_wire.specs.declared.store.StoreFault.{StoreFault}
 use Rattle.gw_service.specs.Metering.{MetersDue, failing_by, metered, seconds_of}
 use Rattle.gw_watchers.specs.Watching.{Watching}
+use Rattle.gw_watchers.specs.declared.beside.Beside.{Beside}
+use Rattle.gw_watchers.specs.declared.trial.Trial.{Trial}
 use Rattle.gw_service.specs.Chain.{AreLinks, IsLink, Link, Look, Runs, Stage, Standing, announced_at, chain_text, link_text, look_text, standing_at}
 use Rattle.gw_service.specs.Chain.{ended, served, ticked, unrequested, withheld}
 use Rattle.gw_service.specs.declared.running.End.{End}
 use Rattle.gw_service.specs.declared.running.End.TheVariants as end
 use Rattle.gw_service.specs.Keeping.{IsKeptFor, failing_in, troubles_in}
 use Rattle.gw_service.specs.Kept.{AreRequestsUnder, Given, IsLastDenial, IsMetricsUnder, IsStateUnder, IsStoreUnder, IsUnprepared, LeavesKept, LeavesWithState}
-use Rattle.gw_service.specs.Kept.{IsTrialNote, Names, RunsBy, RunsKept, StateMachine, StoreOpening, first_stage, given, is_plain, manner_of, names_of, ran, reporting_of, stop_text, text_before, unopened, unprepared}
-use Rattle.gw_service.specs.Serving.{Ends, LeavesServed, Machine, Service, service, shut}
+use Rattle.gw_service.specs.Kept.{IsTrialNote, Names, RunsBy, StateMachine, StoreOpening, first_stage, given, is_plain, names_of, ran, reporting_of, service_by, stop_text, text_before, unopened, unprepared}
+use Rattle.gw_service.specs.Plain.{RunsKept, WatchesNothing, manner_of}
+use Rattle.gw_service.specs.Serving.{Ends, LeavesServed, Machine, Service, shut}
 use Rattle.gw_service.specs.Serving.{served as served_by}
 use Rattle.gw_service.specs.Stats.{Reporting, due_by, end_by, is_due, minute_text, troubles_text}
 use Rattle.gw_turns.specs.declared.serving.Served.{Served}
 use Rattle.gw_turns.specs.declared.tally.Tally.{Tally}
-use Rattle.gw_service.specs.Watch.{IsAuditNamed, IsTrialNamed, IsUnwatched, IsWatcherUnder, WatchNames, is_watched}
+use Rattle.gw_service.specs.Watch.{AreCountsOf, IsAuditNamed, IsTrialNamed, IsUnwatched, WatchNames, WatchesUnder, is_watched}
 use Rattle.gw_service.specs.declared.edition.Edition.{Edition}
 use Rattle.gw_service.specs.declared.fault.ServiceFault.{ServiceFault}
 use Rattle.gw_service.specs.declared.fault.ServiceFault.TheVariants as fault
 use Rattle.gw_service.specs.declared.keeping.Kept.{Kept}
 use Rattle.gw_service.specs.declared.keeping.Kept.TheVariants.{Nowhere}
 use Rattle.gw_service.proofs.ChainLemmas.{unsynced_chain}
+use Rattle.gw_service.proofs.NothingLemmas.{as_plain}
 use Rattle.gw_service.proofs.ServedLemmas.{IsQuiet, as_served, begins_quiet, first_nowhere, link_none, link_serves, looks_none, never_stops}
 
 -- ---- nothing is reported
@@ -169,14 +173,14 @@ kept_silent given no_saved no_line no_store no_metrics no_requests c how before 
     runs.runs.said ∙ all_silent first.said (chain_text runs.runs.links) runs.runs.end_text said chain ended
 
 silent : {S Q L : Type 0} (given : Given S Q L) → given.saved ≡ None → given.line ≡ None → given.store ≡ None → given.metrics ≡ None
-    → given.requests ≡ None → given.watcher ≡ None → (c : Configuration) (how : Service) (before after : Ends) (text : List ℕ)
+    → given.requests ≡ None → WatchesNothing given.watcher → (c : Configuration) (how : Service) (before after : Ends) (text : List ℕ)
     (outcome : Result (Unit {0}) ServiceFault) → c.announce ≡ false → how.stats ≡ None → how.verbose ≡ false → how.holds ≡ false
     → LeavesKept given c how before after text outcome → text ≡ []
-silent given no_saved no_line no_store no_metrics no_requests no_watcher c how before after text outcome quiet unreported mute ends (inl runs) =
+silent given no_saved no_line no_store no_metrics no_requests nothing c how before after text outcome quiet unreported mute ends (inl runs) =
     kept_silent given no_saved no_line no_store no_metrics no_requests c how before after text outcome quiet unreported mute
-    (subst (λ (h : Bool). RunsBy given None h c how before after text outcome) ends
-    (subst (λ (w : Option (Watching _ _)). RunsBy given w how.holds c how before after text outcome) no_watcher runs))
-silent given no_saved no_line no_store no_metrics no_requests no_watcher c how before after text outcome quiet unreported mute ends (inr unbegun) = unbegun.1
+    (as_plain given nothing false c how before after text outcome
+    (subst (λ (h : Bool). RunsBy given h c how before after text outcome) ends runs))
+silent given no_saved no_line no_store no_metrics no_requests nothing c how before after text outcome quiet unreported mute ends (inr unbegun) = unbegun.1
 
 -- ---- what is read and opened before
 
@@ -206,11 +210,32 @@ requests_none ReloadsOpen None config None is under = refl
 requests_none ReloadsOpen None config (Some requests) is under = absurd under
 requests_none ReloadsOpen (Some name) config requests is under = absurd cc
 
-watcher_none : {Log : Type 0} (FileReads LastDenials : List ℕ → Result (Option (List ℕ)) ReadFailure → Type 0) (LogOpens : LogOpening Log)
-    (c : Configuration) (names : WatchNames) (watcher : Option (Watching Log Log)) → is_watched names ≡ false
-    → IsWatcherUnder FileReads LastDenials LogOpens c names watcher → watcher ≡ None
-watcher_none FileReads LastDenials LogOpens c names None is under = refl
-watcher_none FileReads LastDenials LogOpens c names (Some w) is under = absurd (true≢false (sym under.0 ∙ is))
+trial_none : {Log : Type 0} (FileReads LastDenials : List ℕ → Result (Option (List ℕ)) ReadFailure → Type 0) (LogOpens : LogOpening Log)
+    (c : Configuration) (rules log : Option (List ℕ)) (has_all : Bool) (trial : Option (Beside Trial Log)) → rules ≡ None
+    → IsTrialNamed FileReads LastDenials LogOpens c rules log has_all (Ok trial) → trial ≡ None
+trial_none FileReads LastDenials LogOpens c None log has_all trial is under = cc
+trial_none FileReads LastDenials LogOpens c (Some rules) log has_all trial is under = absurd cc
+
+audit_none : {Log : Type 0} (LastDenials : List ℕ → Result (Option (List ℕ)) ReadFailure → Type 0) (LogOpens : LogOpening Log)
+    (c : Configuration) (name : Option (List ℕ)) (audit : Option (Beside (List Bool) Log)) → name ≡ None
+    → IsAuditNamed LastDenials LogOpens c name (Ok audit) → audit ≡ None
+audit_none LastDenials LogOpens c None audit is under = cc
+audit_none LastDenials LogOpens c (Some name) audit is under = absurd cc
+
+counts_none : (c : Configuration) (wanted : Bool) (counts : Option (List ℕ)) → wanted ≡ false → AreCountsOf c wanted counts → counts ≡ None
+counts_none c false None is under = refl
+counts_none c false (Some counts) is under = absurd under
+counts_none c true counts is under = absurd cc
+
+nothing_under : {Log : Type 0} (FileReads LastDenials : List ℕ → Result (Option (List ℕ)) ReadFailure → Type 0) (LogOpens : LogOpening Log)
+    (c : Configuration) (names : WatchNames) (w : Watching Log Log) → names.trial ≡ None → names.audit ≡ None → names.counts ≡ false
+    → WatchesUnder FileReads LastDenials LogOpens c names w → WatchesNothing w
+nothing_under FileReads LastDenials LogOpens c names w no_trial no_audit uncounted under = record {
+  trial = trial_none FileReads LastDenials LogOpens c names.trial names.trial_log names.trial_all w.trial no_trial under.trial;
+  audit = audit_none LastDenials LogOpens c names.audit w.audit no_audit under.audit;
+  counts = counts_none c names.counts w.counts uncounted under.counts;
+  ended = under.ended;
+}
 
 text_none : (name : Option (List ℕ)) (is_verbose : Bool) (c : Configuration) (saved : Option Saved) → name ≡ None
     → text_before name is_verbose c saved ≡ []
@@ -263,7 +288,7 @@ record AreNone (names : Names) : Type 0 where
   reload : names.reload ≡ None
   trial : names.watch.trial ≡ None
   audit : names.watch.audit ≡ None
-  watched : is_watched names.watch ≡ false
+  counts : names.watch.counts ≡ false
 
 -- then only memory can end it before the log is opened
 watch_memory : {Log : Type 0} (FileReads LastDenials : List ℕ → Result (Option (List ℕ)) ReadFailure → Type 0) (LogOpens : LogOpening Log)
@@ -309,14 +334,15 @@ serves_plain m states names held holds e how is_verbose line said outcome none u
     let no_store = store_none states.StoreOpens names.state before.store none.state prepared.store in
     let no_metrics = metrics_none states.StoreOpens names.metrics before.metrics none.metrics prepared.metrics in
     let no_requests = requests_none states.ReloadsOpen names.reload names.config before.requests none.reload prepared.requests in
-    let no_watcher = watcher_none states.FileReads states.LastDenials m.LogOpens e.config names.watch before.watcher none.watched prepared.watcher in
+    let nothing = nothing_under states.FileReads states.LastDenials m.LogOpens e.config names.watch before.watcher none.trial none.audit none.counts
+    prepared.watcher in
     let told = prepared.text in
     let no_text : before.text.items ≡ [] = told.says ∙ ap₂ (λ (x y : List ℕ). x ++ y) (text_none names.state is_verbose e.config before.saved none.state)
     (note_none states.FileReads names.watch.trial e.config told.note none.trial told.tried) in
     let serves = as_served at no_saved no_line no_store no_requests e.config how _ _ text outcome ends quiet leaves in
-    let nothing : is_verbose ≡ false → text ≡ [] = λ mute.
-    silent at no_saved no_line no_store no_metrics no_requests no_watcher e.config how _ _ text outcome quiet unreported (is_loud ∙ mute) ends leaves in
-    served_by log log_then sockets sockets_then output warning text opens closes stays serves warns nothing
+    let says_nothing : is_verbose ≡ false → text ≡ [] = λ mute.
+    silent at no_saved no_line no_store no_metrics no_requests nothing e.config how _ _ text outcome quiet unreported (is_loud ∙ mute) ends leaves in
+    served_by log log_then sockets sockets_then output warning text opens closes stays serves warns says_nothing
     (is ∙ ap (λ (x : List ℕ). ((line ++ warning) ++ x) ++ text) no_text ∙ ap (λ (x : List ℕ). x ++ text) (append-nil (line ++ warning)))
 
 none_of : {A : Type 0} (x : Option A) → is_some x ≡ false → x ≡ None
@@ -337,7 +363,7 @@ or_parts true b is = absurd cc
 
 pub plain_is_served : {Log Sockets S Q : Type 0} (m : Machine Log Sockets) (states : StateMachine S Q) (options : RunOptions)
     (held holds : Option (List ℕ)) (e : Edition) (line said : List ℕ) (outcome : Result (Unit {0}) ServiceFault) → is_plain options ≡ true
-    → e.config.announce ≡ false → LeavesWithState m states (names_of options) held holds e (service options.turns options.stats options.stats_rules options.verbose options.holds) options.verbose line said outcome
+    → e.config.announce ≡ false → LeavesWithState m states (names_of options) held holds e (service_by options) options.verbose line said outcome
     → LeavesServed m (option_map string_bytes options.log) held holds e.config options.turns options.verbose line said outcome
 plain_is_served m states options held holds e line said outcome plain quiet leaves =
     let names = names_of options in
@@ -345,12 +371,12 @@ plain_is_served m states options held holds e line said outcome plain quiet leav
     let trial = or_parts (is_some names.watch.trial) (is_some names.watch.audit || names.watch.counts) parts.2 in
     let audit = or_parts (is_some names.watch.audit) names.watch.counts trial.1 in
     let counts = or_parts (is_some options.stats) (is_some options.metrics) audit.1 in
-    serves_plain m states names held holds e (service options.turns options.stats options.stats_rules options.verbose options.holds) options.verbose line said outcome
+    serves_plain m states names held holds e (service_by options) options.verbose line said outcome
     (record {
       state = ap (option_map string_bytes) (none_of options.state parts.0);
       metrics = ap (option_map string_bytes) (none_of options.metrics counts.1);
       reload = ap (option_map string_bytes) (none_of options.reload parts.1);
       trial = none_of names.watch.trial trial.0;
       audit = none_of names.watch.audit audit.0;
-      watched = parts.2;
+      counts = audit.1;
     }) (none_of options.stats counts.0) refl parts.3 quiet leaves

@@ -1,6 +1,6 @@
 -- What a watcher's logs and counts are after a run.
 use Rattle.std.proofs.Common.{◌≡◌, ◌⊎◌, inl, inr, ◌∙◌, refl, sym, ap, subst, ℕ, ◌+◌, ◌-◌, ◌^◌, ◌<◌, Bool, true, false, List, [], ◌∷◌, ◌++◌, length, Option, Some, None, arith}
-use Rattle.std.specs.Prelude.{is_some, ◌||◌, min, if◌then◌else◌, slice_index}
+use Rattle.std.specs.Prelude.{is_some, ◌||◌, ◌==◌, min, if◌then◌else◌, slice_index}
 use Rattle.std.specs.Io.KnownBytes.{Appends}
 use Rattle.std.proofs.KnownBytes.{Appends-nil, Appends-trans}
 use Rattle.std.proofs.lemmas.List.Concat.{flat_map-cons}
@@ -21,7 +21,7 @@ use Rattle.gw_watchers.specs.Watching.{HasWatched, IsAudited, IsCounted, IsTried
 use Rattle.gw_watchers.specs.declared.beside.Beside.{Beside}
 use Rattle.gw_watchers.specs.declared.trial.Trial.{Trial}
 use Rattle.gw_core.specs.Effects.{NeedsNoMemory}
-use Rattle.gw_decisions.proofs.CountedLemmas.{counted_along}
+use Rattle.gw_decisions.specs.tally.Tally.{one_more, place_of}
 use Rattle.gw_watchers.proofs.RecordLemmas.{lines_along}
 
 -- ---- one log, event by event
@@ -248,6 +248,10 @@ counted_some : (asked : List Asked) (b : List ℕ) (c : Option (List ℕ)) → I
     → (d : List ℕ) × (c ≡ Some d) × AreCounted b asked d
 counted_some asked b (Some d) p = (d, refl, p)
 counted_some asked b None p = absurd p
+
+counted_along : (k count : ℕ) (one two : List Asked) → counted_on k count (one ++ two) ≡ counted_on k (counted_on k count one) two
+counted_along k count [] two = refl
+counted_along k count (a ∷ one) two = counted_along k (if place_of a.verdict.by == k then one_more count else count) one two
 
 run_counted : {T A : Type 0} (trial : T → Option (List ℕ)) (audit : A → Option (List ℕ)) (g h : Watching T A) (w : State) (events : List Event)
     (b c : List ℕ) → AreWatched trial audit g w events h → g.counts ≡ Some b → h.counts ≡ Some c → (k : ℕ) → k < length b

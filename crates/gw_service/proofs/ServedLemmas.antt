@@ -23,7 +23,6 @@ use Rattle.gw_turns.specs.declared.serving.ServeFault.{ServeFault}
 use Rattle.gw_turns.specs.declared.serving.ServeFault.TheVariants as serving
 use Rattle.gw_turns.specs.declared.serving.Served.{Served}
 use Rattle.gw_system.specs.Requests.{Asking, GoesOn, answered, asked, asked_to_say, asked_to_stop, nobody, recorded_by, unasked, untaken}
-use Rattle.gw_watchers.specs.Watching.{Watching}
 use Rattle.gw_service.specs.Reload.{taken_over_line}
 use Rattle.gw_service.specs.Chain.{AreLinks, IsLink, IsLooked, IsUnrequested, Link, Look, Manner, Runs, RunsToStop, Stage, Standing, announced_at}
 use Rattle.gw_service.specs.Chain.{ended, inquired, passed_over, refused, served, stopping, taken_over, ticked, unrequested, withheld}
@@ -32,7 +31,8 @@ use Rattle.gw_service.specs.declared.running.End.TheVariants as end
 use Rattle.gw_wire.specs.declared.store.StoreFault.{StoreFault}
 use Rattle.gw_service.specs.Fault.{fault_of_serving}
 use Rattle.gw_service.specs.Keeping.{IsKeptAtTick, IsKeptFor, IsPassed, failing_in, troubles_in}
-use Rattle.gw_service.specs.Kept.{Given, KeepsFirst, RunsBy, RunsKept, first_stage, manner_of, outcome_by, reporting_of}
+use Rattle.gw_service.specs.Kept.{Given, KeepsFirst, RunsBy, first_stage, outcome_by, reporting_of}
+use Rattle.gw_service.specs.Plain.{RunsKept, manner_of}
 use Rattle.gw_service.specs.Laws.{FindsNone, IsAsServed, NobodyAsks}
 use Rattle.gw_service.specs.Serving.{Ends, Serves, Service, first_scene}
 use Rattle.gw_service.specs.Start.{BeginsAs, begun}
@@ -377,19 +377,10 @@ kept_serves given no_state no_line no_store no_requests c how before after text 
     (subst (λ (w : State). LeadTo (scene w before.log before.calls) [] begun.now.scene) fresh from)
     runs.runs.log runs.runs.calls)
 
-runs_serve : {S Q L : Type 0} (given : Given S Q L) → given.saved ≡ None → given.line ≡ None → given.store ≡ None → given.requests ≡ None
-    → (watcher : Option (Watching L L)) (c : Configuration) (how : Service) (before after : Ends) (text : List ℕ)
-    (outcome : Result (Unit {0}) ServiceFault) → c.announce ≡ false → RunsBy given watcher false c how before after text outcome
-    → Serves c how.turns before after outcome
-runs_serve given no_state no_line no_store no_requests None c how before after text outcome quiet runs =
-    kept_serves given no_state no_line no_store no_requests c how before after text outcome quiet runs
-runs_serve given no_state no_line no_store no_requests (Some watcher) c how before after text outcome quiet runs =
-    let other = as_unwatched given watcher c how before after text outcome runs in
-    kept_serves given no_state no_line no_store no_requests c how before after other.0 outcome quiet other.1
-
 pub as_served : {S Q L : Type 0} (given : Given S Q L) → IsAsServed given
 as_served given no_state no_line no_store no_requests c how before after text outcome ends quiet (inl runs) =
-    runs_serve given no_state no_line no_store no_requests given.watcher c how before after text outcome quiet
-    (subst (λ (h : Bool). RunsBy given given.watcher h c how before after text outcome) ends runs)
+    let other = as_unwatched given c how before after text outcome
+    (subst (λ (h : Bool). RunsBy given h c how before after text outcome) ends runs) in
+    kept_serves given no_state no_line no_store no_requests c how before after other.0 outcome quiet other.1
 as_served given no_state no_line no_store no_requests c how before after text outcome ends quiet (inr unbegun) =
     subst (λ (x : Result (Unit {0}) ServiceFault). Serves c how.turns before after x) (sym unbegun.2) (inr unbegun.0)

@@ -22,7 +22,8 @@ use Rattle.gw_service.specs.declared.running.End.{End}
 use Rattle.gw_service.specs.declared.running.End.TheVariants as end
 use Rattle.gw_core.specs.declared.event.Counts.{Counts}
 use Rattle.gw_service.specs.Keeping.{IsKeptFor, IsPassed, failing_in, troubles_in, unkept_in}
-use Rattle.gw_service.specs.Kept.{AnswersStop, EndsRun, Given, Rest, manner_of, no_more, reporting_of, rest, stop_text, unkept_of, watched_manner_of}
+use Rattle.gw_service.specs.Kept.{AnswersStop, EndsRun, Given, Rest, reporting_of, rest, stop_text, unkept_of, watched_manner_of}
+use Rattle.gw_service.specs.Plain.{manner_of, no_more}
 use Rattle.gw_service.specs.Laws.{IsAsUnwatched}
 use Rattle.gw_service.specs.Metering.{failing_by, lost_by}
 use Rattle.gw_notices.specs.Notices.{metrics_notice, no_troubles, notice_of, of_state, stop_line}
@@ -352,7 +353,7 @@ ends held log_held how quiet start answer last left text is = (
 )
 
 pub as_unwatched : {S Q L : Type 0} (given : Given S Q L) → IsAsUnwatched given
-as_unwatched given w c how before after text outcome runs =
+as_unwatched given c how before after text outcome runs =
     let reports = reporting_of given how runs.gateway in
     let last = runs.runs.last in
     let other = ran given.held given.log_held reports how.turns _ last runs.answer runs.runs.links runs.runs.runs in

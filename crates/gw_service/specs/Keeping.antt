@@ -9,7 +9,6 @@ use Rattle.gw_wire.specs.declared.store.StoreFault.{StoreFault}
 use Rattle.gw_notices.specs.declared.metrics.counts.StateTries.{StateTries}
 use Rattle.gw_service.specs.declared.keeping.Kept.{Kept}
 use Rattle.gw_service.specs.declared.keeping.Kept.TheVariants.{Nowhere, In}
-use Rattle.gw_notices.specs.declared.losses.Losses.{Losses}
 use Rattle.gw_service.specs.declared.successor.Successor.{Successor}
 use Rattle.gw_notices.specs.declared.troubles.Troubles.{Troubles}
 use Rattle.gw_notices.specs.Notices.{of_state}
@@ -63,7 +62,3 @@ unkept_in (In k) = k.unkept
 abbrev pub tries_in : {S : Type 0} → Kept S → Option StateTries
 tries_in Nowhere = None
 tries_in (In k) = Some (record { is_kept = not (is_some (failing_of k.kept)); unkept = k.unkept })
-
--- nothing is watched, so nothing of that is lost
-abbrev pub no_losses : Losses
-no_losses = record { unwatched = 0; trial_lines = 0; audit_lines = 0 }

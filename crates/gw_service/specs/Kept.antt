@@ -38,9 +38,9 @@ use Rattle.gw_notices.specs.Parts.{IsTrialLine}
 use Rattle.gw_notices.specs.Startup.{IsWarning, startup_line}
 use Rattle.gw_service.specs.Metering.{MetersLast, lost_by, metered, meters_by, seconds_of}
 use Rattle.gw_service.specs.Fault.{fault_of_opening, fault_of_serving}
-use Rattle.gw_service.specs.Keeping.{IsKeptAtTick, IsKeptFor, IsKeptLast, IsPassed, failing_in, troubles_in, unkept_in}
+use Rattle.gw_service.specs.Keeping.{IsPassed, failing_in, unkept_in}
 use Rattle.gw_notices.specs.Notices.{no_status_line, no_troubles, notice_of, stop_line}
-use Rattle.gw_service.specs.Watch.{IsKeptAtTickBeside, IsKeptForBeside, IsKeptLastBeside, IsUnwatched, IsWatcherUnder, WatchNames, is_watched, more_of, troubles_of, unaudited_note, watch_names}
+use Rattle.gw_service.specs.Watch.{IsKeptAtTickBeside, IsKeptForBeside, IsKeptLastBeside, IsUnwatched, WatchNames, WatchesUnder, is_watched, more_of, troubles_of, unaudited_note, watch_names}
 use Rattle.gw_service.specs.Serving.{AreOpen, ArentOpen, Ends, LeavesServed, LogStays, Machine, Service, ends, log_held, service}
 use Rattle.gw_service.specs.Start.{BeginsAs, IsStateRead, counts_of, start_text}
 use Rattle.gw_notices.specs.Reload.{counts_since}
@@ -152,7 +152,7 @@ KeepsFirst held _ c w _ = ⊥
 -- ---- a run
 
 -- what a store holds, what requests say and what a log beside the log holds; what was saved, the last denial of the log, and the
--- store, that of the metrics, the requests and what watches, if there are some; and the checksum of the configuration's text
+-- store, that of the metrics and the requests, if there are some; what watches, maybe nothing; and the checksum of the configuration's text
 pub record Given (S Q L : Type 0) : Type 0 where
   pub held : S → Option (List ℕ)
   pub said : Q → Asking
@@ -162,7 +162,7 @@ pub record Given (S Q L : Type 0) : Type 0 where
   pub store : Option S
   pub metrics : Option S
   pub requests : Option Q
-  pub watcher : Option (Watching L L)
+  pub watcher : Watching L L
   pub checksum : Checksum
 
 abbrev pub given : {S Q L : Type 0} → (S → Option (List ℕ)) → (Q → Asking) → (L → Option (List ℕ)) → Before S Q L → Given S Q L
@@ -179,17 +179,7 @@ given held said log_held before = record {
   checksum = before.checksum;
 }
 
--- what keeps the state of a gateway, by a store, reports no more of itself
-abbrev pub no_more : {S : Type 0} → Kept S → (rules : Bool) → State → List ℕ
-no_more k rules w = []
-
--- what keeps the state of a gateway, by a store
-abbrev pub manner_of : {S : Type 0} → (S → Option (List ℕ)) → Reporting → Manner (Kept S)
-manner_of held how =
-    manner (IsPassed held) (IsKeptAtTick held) (IsKeptFor held) troubles_in (due_stats unkept_in no_more how) (all_stats unkept_in no_more how) (meters_by how.start)
-    (IsKeptLast held)
-
--- the same, after what watches it: what is recorded of an event is written before its state is kept
+-- what watches a gateway, and then keeps its state by a store: what is recorded of an event is written before its state is kept
 abbrev pub unkept_of : {S L : Type 0} → Both (Watching L L) (Kept S) → ℕ
 unkept_of k = unkept_in k.second
 
@@ -308,27 +298,14 @@ pub record RunsFromHolding {K : Type 0} (manner : Manner (Holding K))
   pub said : text ≡ (notice_of no_troubles first.said ++ run_text) ++ end_text
 
 -- A gateway of this configuration begins with what was saved, its state is kept at once, and then it runs for so many turns, and
--- reports what it did.
-pub record RunsKept {S Q L : Type 0} (given : Given S Q L) (c : Configuration) (how : Service) (before after : Ends) (text : List ℕ)
+-- reports what it did. It is watched, maybe for nothing, before its state is kept.
+pub record RunsWatched {S Q L : Type 0} (given : Given S Q L) (c : Configuration) (how : Service) (before after : Ends) (text : List ℕ)
     (outcome : Result (Unit {0}) ServiceFault) : Type 0 where
-  pub gateway : State
-  pub begins : BeginsAs c given.saved given.line gateway
-  pub keeper : Kept S
-  pub keeps : KeepsFirst given.held given.store c gateway keeper
-  pub answer : Result End ServeFault
-  pub left : Rest (Kept S)
-  pub runs : RunsFrom (manner_of given.held (reporting_of given how gateway)) (end_stats unkept_in no_more (reporting_of given how gateway))
-      (counts_of gateway) how.turns (first_stage given c gateway keeper (troubles_in keeper) before) answer after left text
-  pub answers : outcome ≡ outcome_by answer (failing_in left.keeper)
-
--- So does one that is watched, before its state is kept.
-pub record RunsWatched {S Q L : Type 0} (given : Given S Q L) (watcher : Watching L L) (c : Configuration) (how : Service) (before after : Ends)
-    (text : List ℕ) (outcome : Result (Unit {0}) ServiceFault) : Type 0 where
   pub gateway : State
   pub begins : BeginsAs c given.saved given.line gateway
   pub keeper : Both (Watching L L) (Kept S)
   pub keeps : KeepsFirst given.held given.store c gateway keeper.second
-  pub watches : keeper.first ≡ watcher
+  pub watches : keeper.first ≡ given.watcher
   pub answer : Result End ServeFault
   pub left : Rest (Both (Watching L L) (Kept S))
   pub runs : RunsFrom (watched_manner_of given.held given.log_held (reporting_of given how gateway))
@@ -336,37 +313,20 @@ pub record RunsWatched {S Q L : Type 0} (given : Given S Q L) (watcher : Watchin
       (first_stage given c gateway keeper (troubles_of keeper) before) answer after left text
   pub answers : outcome ≡ outcome_by answer (failing_in left.keeper.second)
 
--- Each of them may go on if its log fails: what keeps the state, watched or not, is in what withholds what is denied while lines wait.
-abbrev pub holding_manner_of : {S : Type 0} → (S → Option (List ℕ)) → Reporting → Manner (Holding (Kept S))
-holding_manner_of held how =
-    holding_manner (IsPassed held) (IsKeptAtTick held) (IsKeptFor held) troubles_in unkept_in no_more how (IsKeptLast held)
-
+-- It may go on if its log fails: what watches and keeps the state is in what withholds what is denied while lines wait.
 abbrev pub watched_holding_manner_of : {S L : Type 0} → (S → Option (List ℕ)) → (L → Option (List ℕ)) → Reporting
     → Manner (Holding (Both (Watching L L) (Kept S)))
 watched_holding_manner_of held log_held how =
     holding_manner (PassesBoth (HasWatched log_held log_held) (IsPassed held)) (IsKeptAtTickBeside held) (IsKeptForBeside held) troubles_of
     unkept_of more_of how (IsKeptLastBeside held)
 
-pub record HoldsKept {S Q L : Type 0} (given : Given S Q L) (c : Configuration) (how : Service) (before after : Ends) (text : List ℕ)
+pub record HoldsWatched {S Q L : Type 0} (given : Given S Q L) (c : Configuration) (how : Service) (before after : Ends) (text : List ℕ)
     (outcome : Result (Unit {0}) ServiceFault) : Type 0 where
-  pub gateway : State
-  pub begins : BeginsAs c given.saved given.line gateway
-  pub keeper : Kept S
-  pub keeps : KeepsFirst given.held given.store c gateway keeper
-  pub answer : Result End ServeFault
-  pub left : Rest (Holding (Kept S))
-  pub runs : RunsFromHolding (holding_manner_of given.held (reporting_of given how gateway))
-      (end_stats (λ h. unkept_in h.keeper) (more_holding no_more) (reporting_of given how gateway))
-      (counts_of gateway) how.turns (first_stage given c gateway (unheld keeper) (troubles_in keeper) before) answer after left text
-  pub answers : outcome ≡ outcome_by answer (failing_in left.keeper.keeper)
-
-pub record HoldsWatched {S Q L : Type 0} (given : Given S Q L) (watcher : Watching L L) (c : Configuration) (how : Service) (before after : Ends)
-    (text : List ℕ) (outcome : Result (Unit {0}) ServiceFault) : Type 0 where
   pub gateway : State
   pub begins : BeginsAs c given.saved given.line gateway
   pub keeper : Both (Watching L L) (Kept S)
   pub keeps : KeepsFirst given.held given.store c gateway keeper.second
-  pub watches : keeper.first ≡ watcher
+  pub watches : keeper.first ≡ given.watcher
   pub answer : Result End ServeFault
   pub left : Rest (Holding (Both (Watching L L) (Kept S)))
   pub runs : RunsFromHolding (watched_holding_manner_of given.held given.log_held (reporting_of given how gateway))
@@ -374,13 +334,11 @@ pub record HoldsWatched {S Q L : Type 0} (given : Given S Q L) (watcher : Watchi
       (first_stage given c gateway (unheld keeper) (troubles_of keeper) before) answer after left text
   pub answers : outcome ≡ outcome_by answer (failing_in left.keeper.keeper.second)
 
--- by whether something watches, and whether it goes on if its log fails
-abbrev pub RunsBy : {S Q L : Type 0} → Given S Q L → Option (Watching L L) → (holds : Bool) → Configuration → Service → Ends → Ends → List ℕ
+-- by whether it goes on if its log fails
+abbrev pub RunsBy : {S Q L : Type 0} → Given S Q L → (holds : Bool) → Configuration → Service → Ends → Ends → List ℕ
     → Result (Unit {0}) ServiceFault → Type 0
-RunsBy given None false c how before after text outcome = RunsKept given c how before after text outcome
-RunsBy given (Some watcher) false c how before after text outcome = RunsWatched given watcher c how before after text outcome
-RunsBy given None true c how before after text outcome = HoldsKept given c how before after text outcome
-RunsBy given (Some watcher) true c how before after text outcome = HoldsWatched given watcher c how before after text outcome
+RunsBy given false c how before after text outcome = RunsWatched given c how before after text outcome
+RunsBy given true c how before after text outcome = HoldsWatched given c how before after text outcome
 
 -- Memory ran out before that: nothing was received or reported.
 abbrev pub IsUnbegun : (before after : Ends) → (text : List ℕ) → (outcome : Result (Unit {0}) ServiceFault) → Type 0
@@ -389,7 +347,7 @@ IsUnbegun before after text outcome = (after ≡ before) × (text ≡ []) × (ou
 -- what a run leaves that keeps its state or reads its configuration again
 abbrev pub LeavesKept : {S Q L : Type 0} → Given S Q L → Configuration → Service → Ends → Ends → List ℕ → Result (Unit {0}) ServiceFault → Type 0
 LeavesKept given c how before after text outcome =
-    RunsBy given given.watcher how.holds c how before after text outcome ⊎ IsUnbegun before after text outcome
+    RunsBy given how.holds c how before after text outcome ⊎ IsUnbegun before after text outcome
 
 -- ---- the whole
 
@@ -444,7 +402,7 @@ pub record IsPrepared {S Q Log : Type 0} (machine : StateMachine S Q) (LogOpens 
   pub store : IsStoreUnder machine.StoreOpens names.state (Ok before.store)
   pub metrics : IsMetricsUnder machine.StoreOpens names.metrics (Ok before.metrics)
   pub requests : AreRequestsUnder machine.ReloadsOpen names.reload names.config before.requests
-  pub watcher : IsWatcherUnder machine.FileReads machine.LastDenials LogOpens e.config names.watch before.watcher
+  pub watcher : WatchesUnder machine.FileReads machine.LastDenials LogOpens e.config names.watch before.watcher
   pub checksum : before.checksum ≡ e.checksum
 
 -- Why it couldn't be: the state can't be read, or isn't one; the log can't be read; its store can't be opened,
@@ -492,6 +450,10 @@ abbrev pub whole_machine : {Log Sockets S Q : Type 0} → Machine Log Sockets �
     → WholeMachine Log Sockets S Q
 whole_machine machine states Waits = record { machine = machine; states = states; Waits = Waits }
 
+-- how options ask to serve
+abbrev pub service_by : RunOptions → Service
+service_by options = service options.turns options.stats options.stats_rules options.verbose options.holds
+
 -- What a run leaves under a configuration, by its options. If they name neither a state nor a request file, nothing watches and
 -- nothing is announced, then it is also what one of `serve` from the gateway's first state leaves.
 abbrev pub LeavesChosen : {Log Sockets S Q : Type 0} → WholeMachine Log Sockets S Q → RunOptions → (held holds : Option (List ℕ))
@@ -499,7 +461,7 @@ abbrev pub LeavesChosen : {Log Sockets S Q : Type 0} → WholeMachine Log Socket
 LeavesChosen whole options held holds e said outcome =
     let name = option_map string_bytes options.log in
     let line = startup_line options.verbose e.config name in
-    LeavesWithState whole.machine whole.states (names_of options) held holds e (service options.turns options.stats options.stats_rules options.verbose options.holds) options.verbose line said outcome
+    LeavesWithState whole.machine whole.states (names_of options) held holds e (service_by options) options.verbose line said outcome
     × (is_plain options ≡ true → e.config.announce ≡ false → LeavesServed whole.machine name held holds e.config options.turns options.verbose line said outcome)
 
 -- whether opening the log may wait for its reader: if it is in a file, what the machine says of that

@@ -1,5 +1,5 @@
 -- Laws of a run.
-use Rattle.std.specs.Prelude.{◌≡◌, ⊤, ℕ, ◌<◌, ◌≤◌, ◌^◌, false, List, Some, None, Result, All}
+use Rattle.std.specs.Prelude.{◌≡◌, ⊤, ℕ, ◌<◌, ◌≤◌, ◌^◌, false, Bool, List, Some, None, Result, All}
 use Rattle.gw_audit.specs.Entry.{IsShowable}
 use Rattle.gw_audit.specs.declared.denial.Denial.{Denial}
 use Rattle.gw_core.specs.Effects.{effects_at}
@@ -14,10 +14,10 @@ use Rattle.gw_service.specs.Chain.{AreLinks, Link, Manner, Runs, Stage}
 use Rattle.gw_service.specs.Chain.{ended, served, ticked, unrequested, withheld}
 use Rattle.gw_service.specs.declared.running.End.{End}
 use Rattle.gw_configuration.specs.Configuration.{Configuration}
-use Rattle.gw_watchers.specs.Watching.{Watching}
 use Rattle.gw_service.specs.Counts.{GoesOnFrom}
 use Rattle.gw_service.specs.Edition.{IsEdition}
-use Rattle.gw_service.specs.Kept.{Given, LeavesKept, RunsKept, RunsWatched}
+use Rattle.gw_service.specs.Kept.{Given, LeavesKept, RunsBy, RunsWatched}
+use Rattle.gw_service.specs.Plain.{RunsKept, RunsPlain, WatchesNothing}
 use Rattle.gw_service.specs.Serving.{Ends, Serves, Service}
 use Rattle.gw_service.specs.Start.{BeginsAs}
 use Rattle.gw_state.specs.Saved.{Saved}
@@ -61,13 +61,20 @@ NumbersGoOnAlone =
     (c : Configuration) (s : Saved) (w : State) (e : Event) → BeginsAs c (Some s) None w
     → All (λ (d : Denial). s.counts.denials < d.number) (effects_at w e).denials
 
--- A run that is watched is one that isn't, but for what is reported: its log, its wire's calls, its state and its outcome are those
+-- A run, whatever watches it, is the plain one but for what is reported: its log, its wire's calls, its state and its outcome are those
 -- of one without what watches.
 abbrev pub IsAsUnwatched : {S Q L : Type 0} → Given S Q L → Type 0
 IsAsUnwatched {S} {Q} {L} given =
-    (watcher : Watching L L) (c : Configuration) (how : Service) (before after : Ends) (text : List ℕ) (outcome : Result (Unit {0}) ServiceFault)
-    → RunsWatched given watcher c how before after text outcome
+    (c : Configuration) (how : Service) (before after : Ends) (text : List ℕ) (outcome : Result (Unit {0}) ServiceFault)
+    → RunsWatched given c how before after text outcome
     → (other : List ℕ) × RunsKept given c how before after other outcome
+
+-- If nothing is watched it is the plain one also in what is reported, whether it goes on if its log fails or not.
+abbrev pub IsAsPlain : {S Q L : Type 0} → Given S Q L → Type 0
+IsAsPlain {S} {Q} {L} given =
+    WatchesNothing given.watcher → (holds : Bool) (c : Configuration) (how : Service) (before after : Ends) (text : List ℕ)
+    (outcome : Result (Unit {0}) ServiceFault) → RunsBy given holds c how before after text outcome
+    → RunsPlain given holds c how before after text outcome
 
 -- a link found no request
 abbrev pub FindsNone : Link → Type 0

@@ -15,4 +15,5 @@ pub mod WatchedRuns
 pub mod Scheduled
 pub mod Metering
 pub mod Metrics
+pub mod Plain
 pub mod Holding

@@ -12,7 +12,7 @@ use Rattle.gw_decisions.specs.tally.Tally.{IsTally}
 use Rattle.gw_watchers.specs.files.Trial.{IsAuditBy, IsTrialBy}
 use Rattle.gw_watchers.specs.declared.files.fault.WatchFault.{WatchFault}
 use Rattle.gw_watchers.specs.declared.files.fault.WatchFault.TheVariants as watch
-use Rattle.gw_watchers.specs.Watching.{Watching, ended_by, with_marks}
+use Rattle.gw_watchers.specs.Watching.{Watching, ended_by, is_watching, with_marks}
 use Rattle.gw_watchers.specs.declared.beside.Beside.{Beside}
 use Rattle.gw_watchers.specs.declared.trial.Trial.{Trial}
 use Rattle.gw_service.specs.Keeping.{IsKeptAtTick, IsKeptFor, IsKeptLast, failing_in}
@@ -45,6 +45,7 @@ watch_names options = record {
   counts = is_some options.stats || is_some options.metrics;
 }
 
+-- something is to be watched
 abbrev pub is_watched : WatchNames → Bool
 is_watched names = is_some names.trial || (is_some names.audit || names.counts)
 
@@ -93,7 +94,7 @@ AreCountsOf c _ _ = ⊥
 abbrev pub AreCountsUnder : Configuration → WatchNames → Option (List ℕ) → Type 0
 AreCountsUnder c names counts = AreCountsOf c names.counts counts
 
--- what watches at the start
+-- what watches at the start: nothing, if nothing is asked for
 pub record WatchesUnder {Log : Type 0} (FileReads LastDenials : List ℕ → Result (Option (List ℕ)) ReadFailure → Type 0) (LogOpens : LogOpening Log)
     (c : Configuration) (names : WatchNames) (w : Watching Log Log) : Type 0 where
   pub trial : IsTrialUnder FileReads LastDenials LogOpens c names (Ok w.trial)
@@ -103,14 +104,7 @@ pub record WatchesUnder {Log : Type 0} (FileReads LastDenials : List ℕ → Res
   pub format : w.format ≡ c.format
   pub ended : w.ended ≡ false
 
--- something does if that is asked for
-abbrev pub IsWatcherUnder : {Log : Type 0} → (FileReads LastDenials : List ℕ → Result (Option (List ℕ)) ReadFailure → Type 0) → LogOpening Log
-    → Configuration → WatchNames → Option (Watching Log Log) → Type 0
-IsWatcherUnder FileReads LastDenials LogOpens c names None = is_watched names ≡ false
-IsWatcherUnder FileReads LastDenials LogOpens c names (Some w) =
-    (is_watched names ≡ true) × WatchesUnder FileReads LastDenials LogOpens c names w
-
--- or why it can't
+-- or why nothing can
 abbrev pub IsUnwatched : {Log : Type 0} → (FileReads LastDenials : List ℕ → Result (Option (List ℕ)) ReadFailure → Type 0) → LogOpening Log
     → Configuration → WatchNames → ServiceFault → Type 0
 IsUnwatched FileReads LastDenials LogOpens c names f =
@@ -176,8 +170,17 @@ log_count log = option_map (λ (b : Beside _ _). record { number = b.number; los
 abbrev pub counted_of : {T A : Type 0} → Watching T A → WatchCounts
 counted_of w = record { trial = log_count w.trial; audit = log_count w.audit; unseen = w.unseen }
 
+-- something is watched, or a policy was on trial until it ended
+abbrev pub has_watched : {T A : Type 0} → Watching T A → Bool
+has_watched w = is_watching w || w.ended
+
+-- what a watcher recorded, with how many asks each rule decided or without
+abbrev pub watcher_text : {T A : Type 0} → Watching T A → (rules : Bool) → State → List ℕ
+watcher_text watcher rules w = watch_text (counted_of watcher) ++ (if rules then counts_text w.rules watcher.counts else [])
+
+-- is reported, if something was watched
 abbrev pub more_of : {S T A : Type 0} → Both (Watching T A) (Kept S) → (rules : Bool) → State → List ℕ
-more_of k rules w = watch_text (counted_of k.first) ++ (if rules then counts_text w.rules k.first.counts else [])
+more_of k rules w = if has_watched k.first then watcher_text k.first rules w else []
 
 -- a rule says that it is audited, and no audit is named
 abbrev pub is_unaudited : (audits : List Bool) → (is_named : Bool) → Bool

@@ -10,6 +10,7 @@ use gw_core::{Gateway, Guard, SeenAsks, Taken};
 use gw_decisions::tally::Tally;
 use gw_notices::metrics::StateTries;
 use gw_notices::{Losses, Troubles};
+use gw_rules::Ask;
 use gw_script::{OctetSink, WriteFailed, write_whole};
 use gw_turns::one_more;
 use itoa::Buffer;
@@ -70,8 +71,14 @@ impl<K: Guard> Guard for Holding<K> {
 
     ghost watching = { λ h. K.watching h.keeper };
 
+    ghost keeps = { λ h verdict. K.keeps h.keeper verdict };
+
     fn watches(&self) -> bool {
         self.keeper.watches()
+    }
+
+    fn keeps(&self, ask: &Ask, by: Option<u16>, is_allowed: bool) -> bool {
+        self.keeper.keeps(ask, by, is_allowed)
     }
 
     fn pass(
@@ -133,8 +140,8 @@ impl<K: StateKeeper> StateKeeper for Holding<K> {
         self.keeper.tries()
     }
 
-    fn decisions<'a>(&'a self, nothing: &'a Option<Tally>) -> &'a Option<Tally> {
-        self.keeper.decisions(nothing)
+    fn decisions(&self) -> &Option<Tally> {
+        self.keeper.decisions()
     }
 
     fn losses(&self) -> Losses {

@@ -95,14 +95,12 @@ impl<K: StateKeeper, Q: Requests, M: Store + Drop> HoldingRun<K, Q, M> {
     /// Serves a stretch over the log, as [`Running::advance`] does. If the log fails at an event, what it lacks waits from then on.
     fn step_on_log<W: Wire, L: Notes, E: OctetSink>(
         &mut self,
-        alloc: Global,
         wire: &mut W,
         log: &mut L,
         errors: &mut E,
         schedule: &Schedule,
-        turns: u64,
     ) -> Result<Option<End>, ServeFault>
-        requires count { CanCount self.old.running.state.served self.old.running.state.tally (W.failure_count wire.old) turns }
+        requires count { CanCount self.old.running.state.served self.old.running.state.tally (W.failure_count wire.old) self.old.running.state.left }
         requires none { self.old.waiting ≡ [] }
         ensures comes { (c : Configuration) → self.old.running.origin ≡ origin_of c →
             let before = hold (stage_of Q.recorded c self.old.running (L.held log.old) (W.calls wire.old)) self.old.waiting in
@@ -110,16 +108,15 @@ impl<K: StateKeeper, Q: Requests, M: Store + Drop> HoldingRun<K, Q, M> {
             × GoesTo (holding_manner K.Passes K.Ticks K.Adopts K.troubles K.unkept K.more (reporting_by schedule.now) K.Lasts) before result text
             (hold (stage_of Q.recorded d self.new.running (L.held log.new) (W.calls wire.new)) self.new.waiting)
             × (E.NeverFails errors.old → Appends (E.held errors.old) (E.held errors.new) text) }
-        ensures rest { (rest : ℕ) → self.new.running.state.served.turns + rest ≤ self.old.running.state.served.turns + turns →
-            CanCount self.new.running.state.served self.new.running.state.tally (W.failure_count wire.new) rest }
-        ensures more { 0 < turns → OnOk result (self.old.running.state.served.turns < self.new.running.state.served.turns) }
-        ensures most { self.new.running.state.served.turns ≤ self.old.running.state.served.turns + turns }
+        ensures left { self.new.running.state.served.turns + self.new.running.state.left
+            ≡ self.old.running.state.served.turns + self.old.running.state.left }
+        ensures rest { CanCount self.new.running.state.served self.new.running.state.tally (W.failure_count wire.new) self.new.running.state.left }
+        ensures more { 0 < self.old.running.state.left →
+            OnOk result (self.old.running.state.served.turns < self.new.running.state.served.turns) }
         ensures asking { result ≡ Ok (Some End.Stopped) → IsAsking (Q.recorded self.new.running.requests) }
         ensures lasts { E.NeverFails errors.old → E.NeverFails errors.new }
     {
-        let ended = self
-            .running
-            .advance(alloc, wire, log, errors, schedule, turns);
+        let ended = self.running.advance(wire, log, errors, schedule);
         if !has_log_failed(ended) {
             self.running.keeper.waiting = self.waiting.len();
             return ended;
@@ -133,13 +130,11 @@ impl<K: StateKeeper, Q: Requests, M: Store + Drop> HoldingRun<K, Q, M> {
     /// Serves a stretch over what waits, as over a log: what is denied waits, too.
     fn step_on_waiting<W: Wire, E: OctetSink>(
         &mut self,
-        alloc: Global,
         wire: &mut W,
         errors: &mut E,
         schedule: &Schedule,
-        turns: u64,
     ) -> Result<Option<End>, ServeFault>
-        requires count { CanCount self.old.running.state.served self.old.running.state.tally (W.failure_count wire.old) turns }
+        requires count { CanCount self.old.running.state.served self.old.running.state.tally (W.failure_count wire.old) self.old.running.state.left }
         requires some { ¬ (self.old.waiting ≡ []) }
         ensures comes { (c : Configuration) → self.old.running.origin ≡ origin_of c → (log : Option (List ℕ)) →
             let before = hold (stage_of Q.recorded c self.old.running log (W.calls wire.old)) self.old.waiting in
@@ -147,17 +142,16 @@ impl<K: StateKeeper, Q: Requests, M: Store + Drop> HoldingRun<K, Q, M> {
             × GoesTo (holding_manner K.Passes K.Ticks K.Adopts K.troubles K.unkept K.more (reporting_by schedule.now) K.Lasts) before result text
             (hold (stage_of Q.recorded d self.new.running log (W.calls wire.new)) self.new.waiting)
             × (E.NeverFails errors.old → Appends (E.held errors.old) (E.held errors.new) text) }
-        ensures rest { (rest : ℕ) → self.new.running.state.served.turns + rest ≤ self.old.running.state.served.turns + turns →
-            CanCount self.new.running.state.served self.new.running.state.tally (W.failure_count wire.new) rest }
-        ensures more { 0 < turns → OnOk result (self.old.running.state.served.turns < self.new.running.state.served.turns) }
-        ensures most { self.new.running.state.served.turns ≤ self.old.running.state.served.turns + turns }
+        ensures left { self.new.running.state.served.turns + self.new.running.state.left
+            ≡ self.old.running.state.served.turns + self.old.running.state.left }
+        ensures rest { CanCount self.new.running.state.served self.new.running.state.tally (W.failure_count wire.new) self.new.running.state.left }
+        ensures more { 0 < self.old.running.state.left →
+            OnOk result (self.old.running.state.served.turns < self.new.running.state.served.turns) }
         ensures asking { result ≡ Ok (Some End.Stopped) → IsAsking (Q.recorded self.new.running.requests) }
         ensures lasts { E.NeverFails errors.old → E.NeverFails errors.new }
     {
         let waiting = &mut self.waiting;
-        let ended = self
-            .running
-            .advance(alloc, wire, waiting, errors, schedule, turns);
+        let ended = self.running.advance(wire, waiting, errors, schedule);
         self.running.keeper.waiting = self.waiting.len();
         ended
     }
@@ -187,32 +181,31 @@ impl<K: StateKeeper, Q: Requests, M: Store + Drop> HoldingRun<K, Q, M> {
     /// Serves a stretch over the log; or while lines wait over these, and after a tick they are tried to be written.
     fn step<W: Wire, L: Notes, E: OctetSink>(
         &mut self,
-        alloc: Global,
         wire: &mut W,
         log: &mut L,
         errors: &mut E,
         schedule: &Schedule,
-        turns: u64,
     ) -> Result<Option<End>, ServeFault>
-        requires count { CanCount self.old.running.state.served self.old.running.state.tally (W.failure_count wire.old) turns }
+        requires count { CanCount self.old.running.state.served self.old.running.state.tally (W.failure_count wire.old) self.old.running.state.left }
         ensures comes { (c : Configuration) → self.old.running.origin ≡ origin_of c →
             let before = hold (stage_of Q.recorded c self.old.running (L.held log.old) (W.calls wire.old)) self.old.waiting in
             (d : Configuration) × (text : List ℕ) × (self.new.running.origin ≡ origin_of d)
             × GoesTo (holding_manner K.Passes K.Ticks K.Adopts K.troubles K.unkept K.more (reporting_by schedule.now) K.Lasts) before result text
             (hold (stage_of Q.recorded d self.new.running (L.held log.new) (W.calls wire.new)) self.new.waiting)
             × (E.NeverFails errors.old → Appends (E.held errors.old) (E.held errors.new) text) }
-        ensures rest { (rest : ℕ) → self.new.running.state.served.turns + rest ≤ self.old.running.state.served.turns + turns →
-            CanCount self.new.running.state.served self.new.running.state.tally (W.failure_count wire.new) rest }
-        ensures more { 0 < turns → OnOk result (self.old.running.state.served.turns < self.new.running.state.served.turns) }
-        ensures most { self.new.running.state.served.turns ≤ self.old.running.state.served.turns + turns }
+        ensures left { self.new.running.state.served.turns + self.new.running.state.left
+            ≡ self.old.running.state.served.turns + self.old.running.state.left }
+        ensures rest { CanCount self.new.running.state.served self.new.running.state.tally (W.failure_count wire.new) self.new.running.state.left }
+        ensures more { 0 < self.old.running.state.left →
+            OnOk result (self.old.running.state.served.turns < self.new.running.state.served.turns) }
         ensures asking { result ≡ Ok (Some End.Stopped) → IsAsking (Q.recorded self.new.running.requests) }
         ensures lasts { E.NeverFails errors.old → E.NeverFails errors.new }
     {
         if self.waiting.is_empty() {
-            return self.step_on_log(alloc, wire, log, errors, schedule, turns);
+            return self.step_on_log(wire, log, errors, schedule);
         }
         let ticks = self.running.gateway.counts().ticks;
-        let ended = self.step_on_waiting(alloc, wire, errors, schedule, turns);
+        let ended = self.step_on_waiting(wire, errors, schedule);
         if goes_on(ended) && ticks < self.running.gateway.counts().ticks {
             self.write(log, errors);
             return Ok(None);
@@ -220,39 +213,34 @@ impl<K: StateKeeper, Q: Requests, M: Store + Drop> HoldingRun<K, Q, M> {
         ended
     }
 
-    /// Serves a wire for so many turns, stretch by stretch. Faults: those of [`Running::serve`]; the log's only if what it lacks can't
+    /// Serves a wire for the turns that are left, stretch by stretch. Faults: those of [`Running::serve`]; the log's only if what it lacks can't
     /// wait.
     fn serve_steps<W: Wire, L: Notes, E: OctetSink>(
         &mut self,
-        alloc: Global,
         wire: &mut W,
         log: &mut L,
         errors: &mut E,
         schedule: &Schedule,
-        turns: u64,
     ) -> Result<End, ServeFault>
-        requires count { CanCount self.old.running.state.served self.old.running.state.tally (W.failure_count wire.old) turns }
+        requires count { CanCount self.old.running.state.served self.old.running.state.tally (W.failure_count wire.old) self.old.running.state.left }
         ensures serves { (c : Configuration) → self.old.running.origin ≡ origin_of c →
             let before = hold (stage_of Q.recorded c self.old.running (L.held log.old) (W.calls wire.old)) self.old.waiting in
             (d : Configuration) × (text : List ℕ) × (self.new.running.origin ≡ origin_of d)
-            × ServesHolding (holding_manner K.Passes K.Ticks K.Adopts K.troubles K.unkept K.more (reporting_by schedule.now) K.Lasts) turns before result text
+            × ServesHolding (holding_manner K.Passes K.Ticks K.Adopts K.troubles K.unkept K.more (reporting_by schedule.now) K.Lasts) self.old.running.state.left before result text
             (hold (stage_of Q.recorded d self.new.running (L.held log.new) (W.calls wire.new)) self.new.waiting)
             × (E.NeverFails errors.old → Appends (E.held errors.old) (E.held errors.new) text) }
         ensures asking { is_stopped result ≡ true → IsAsking (Q.recorded self.new.running.requests) }
         ensures lasts { E.NeverFails errors.old → E.NeverFails errors.new }
     {
-        let mut left = turns;
-        for _ in 0..turns {
-            if left == 0 {
+        for _ in 0..self.running.state.left {
+            if self.running.state.left == 0 {
                 return Ok(End::Turns);
             }
-            let before = self.running.state.served.turns;
-            let ended = self.step(alloc, wire, log, errors, schedule, left)?;
+            let ended = self.step(wire, log, errors, schedule)?;
             match ended {
                 Some(end) => return Ok(end),
                 None => {}
             }
-            left -= self.running.state.served.turns - before;
         }
         Ok(End::Turns)
     }
@@ -268,7 +256,7 @@ impl<K: StateKeeper, Q: Requests, M: Store + Drop> HoldingRun<K, Q, M> {
         }
     }
 
-    /// Serves a wire for so many turns, as [`Running::serve`] does, but that it goes on if the log fails: what the log lacks waits, in
+    /// Serves a wire for the turns that are left, as [`Running::serve`] does, but that it goes on if the log fails: what the log lacks waits, in
     /// order, and what is denied is withheld until it is written. It is tried to be written after each tick, and once more at the end.
     ///
     /// # Errors
@@ -277,43 +265,39 @@ impl<K: StateKeeper, Q: Requests, M: Store + Drop> HoldingRun<K, Q, M> {
     /// of it at the end.
     pub fn serve<W: Wire, L: Notes, E: OctetSink>(
         &mut self,
-        alloc: Global,
         wire: &mut W,
         log: &mut L,
         errors: &mut E,
         schedule: &Schedule,
-        turns: u64,
     ) -> Result<End, ServeFault>
-        requires count { CanCount self.old.running.state.served self.old.running.state.tally (W.failure_count wire.old) turns }
+        requires count { CanCount self.old.running.state.served self.old.running.state.tally (W.failure_count wire.old) self.old.running.state.left }
         ensures runs { (c : Configuration) → self.old.running.origin ≡ origin_of c →
             let before = hold (stage_of Q.recorded c self.old.running (L.held log.old) (W.calls wire.old)) self.old.waiting in
             (d : Configuration) × (text : List ℕ) × (self.new.running.origin ≡ origin_of d)
-            × RunsHolding (holding_manner K.Passes K.Ticks K.Adopts K.troubles K.unkept K.more (reporting_by schedule.now) K.Lasts) turns before result text
+            × RunsHolding (holding_manner K.Passes K.Ticks K.Adopts K.troubles K.unkept K.more (reporting_by schedule.now) K.Lasts) self.old.running.state.left before result text
             (hold (stage_of Q.recorded d self.new.running (L.held log.new) (W.calls wire.new)) self.new.waiting)
             × (E.NeverFails errors.old → Appends (E.held errors.old) (E.held errors.new) text) }
         ensures asking { is_stopped result ≡ true → IsAsking (Q.recorded self.new.running.requests) }
         ensures lasts { E.NeverFails errors.old → E.NeverFails errors.new }
     {
-        let how = self.serve_steps(alloc, wire, log, errors, schedule, turns);
+        let how = self.serve_steps(wire, log, errors, schedule);
         self.write(log, errors);
         self.answer(how)
     }
 
-    /// Serves a wire for so many turns as [`HoldingRun::serve`] does, and does before and after it what [`Running::run`] does.
+    /// Serves a wire for the turns that are left, as [`HoldingRun::serve`] does, and does before and after it what [`Running::run`] does.
     ///
     /// # Errors
     ///
     /// Those of [`HoldingRun::serve`].
     pub fn run<W: Wire, L: Notes, E: OctetSink>(
         &mut self,
-        alloc: Global,
         wire: &mut W,
         log: &mut L,
         errors: &mut E,
         schedule: &Schedule,
-        turns: u64,
     ) -> Result<End, ServeFault>
-        requires count { CanCount self.old.running.state.served self.old.running.state.tally (W.failure_count wire.old) turns }
+        requires count { CanCount self.old.running.state.served self.old.running.state.tally (W.failure_count wire.old) self.old.running.state.left }
         requires untold { self.old.running.said ≡ no_troubles }
         requires none { self.old.waiting ≡ [] }
         ensures runs { (c : Configuration) → self.old.running.origin ≡ origin_of c →
@@ -321,7 +305,7 @@ impl<K: StateKeeper, Q: Requests, M: Store + Drop> HoldingRun<K, Q, M> {
             let before = stage_of Q.recorded c (record self.old.running { said = K.troubles self.old.running.keeper.keeper }) (L.held log.old) (W.calls wire.old) in
             let after = ends (L.held log.new) (W.calls wire.new) in
             (text : List ℕ) × RunsFromHolding (holding_manner K.Passes K.Ticks K.Adopts K.troubles K.unkept K.more how K.Lasts)
-            (end_stats (λ h. K.unkept h.keeper) (more_holding K.more) how) how.start turns before result after
+            (end_stats (λ h. K.unkept h.keeper) (more_holding K.more) how) how.start self.old.running.state.left before result after
             (rest self.new.running.keeper (Q.recorded self.new.running.requests)) text
             × (E.NeverFails errors.old → Appends (E.held errors.old) (E.held errors.new) text) }
         ensures lasts { E.NeverFails errors.old → E.NeverFails errors.new }
@@ -329,9 +313,9 @@ impl<K: StateKeeper, Q: Requests, M: Store + Drop> HoldingRun<K, Q, M> {
         self.running.said = self.running.notice(errors);
         self.running
             .announcing
-            .announce(alloc, &self.running.gateway, wire);
-        let answer = self.serve(alloc, wire, log, errors, schedule, turns);
-        self.running.end(alloc, answer, schedule, errors);
+            .announce(self.running.state.alloc, &self.running.gateway, wire);
+        let answer = self.serve(wire, log, errors, schedule);
+        self.running.end(answer, schedule, errors);
         answer
     }
 }

@@ -1,11 +1,11 @@
-//! What keeps the state of a gateway from stretch to stretch, or doesn't.
+//! What keeps the state of a gateway from stretch to stretch, or doesn't, beside what watches it.
 
-ghost use Rattle.std.specs.Prelude.{◌≡◌, [], ℕ, Bool, IsOk, List, None, OnOk, Option, false};
+ghost use Rattle.std.specs.Prelude.{◌≡◌, ℕ, Bool, IsOk, List, OnOk, Option, false};
 ghost use Rattle.std.specs.Io.KnownBytes.{Appends};
 ghost use Rattle.gw_configuration.specs.Configuration.{Configuration};
 ghost use Rattle.gw_core.specs.State.{State};
 ghost use Rattle.gw_state.specs.Saved.{origin_of};
-ghost use Rattle.gw_service.specs.Keeping.{IsKeptAtTick, IsKeptFor, IsKeptLast, IsPassed, IsSuccessor, failing_in, no_losses, tries_in, troubles_in, unkept_in};
+ghost use Rattle.gw_service.specs.Keeping.{IsKeptAtTick, IsKeptFor, IsKeptLast, IsPassed, IsSuccessor, failing_in, tries_in, unkept_in};
 ghost use Rattle.gw_notices.specs.declared.metrics.counts.StateTries.{StateTries};
 ghost use Rattle.gw_notices.specs.declared.losses.Losses.{Losses};
 ghost use Rattle.gw_notices.specs.declared.troubles.Troubles.{Troubles};
@@ -15,6 +15,7 @@ use gw_core::{Gateway, Guard, SeenAsks, Taken};
 use gw_decisions::tally::Tally;
 use gw_notices::metrics::StateTries;
 use gw_notices::{Losses, Troubles};
+use gw_rules::Ask;
 use gw_script::{OctetSink, WriteFailed};
 use gw_state::Origin;
 use gw_turns::Keeper;
@@ -74,9 +75,9 @@ pub trait StateKeeper: Guard {
     fn tries(&self) -> Option<StateTries>
         ensures { result ≡ tries self.now };
 
-    /// How many asks each rule decided, or nothing, which the caller lends, if that isn't counted.
-    fn decisions<'a>(&'a self, nothing: &'a Option<Tally>) -> &'a Option<Tally>
-        ensures { nothing.now ≡ None → result.now ≡ decisions self.now };
+    /// How many asks each rule decided, if that is counted.
+    fn decisions(&self) -> &Option<Tally>
+        ensures { result.now ≡ decisions self.now };
 
     /// How much of what is watched was lost.
     fn losses(&self) -> Losses
@@ -108,7 +109,13 @@ impl<S: Store + Drop> Guard for Kept<S> {
 
     ghost watching = { λ _. false };
 
+    ghost keeps = { λ _ _. false };
+
     fn watches(&self) -> bool {
+        false
+    }
+
+    fn keeps(&self, _ask: &Ask, _by: Option<u16>, _is_allowed: bool) -> bool {
         false
     }
 
@@ -126,83 +133,16 @@ impl<S: Store + Drop> Guard for Kept<S> {
     }
 }
 
-impl<S: Store + Drop> StateKeeper for Kept<S> {
-    ghost Ticks = { IsKeptAtTick S.held };
-
-    ghost Adopts = { IsKeptFor S.held };
-
-    ghost Lasts = { IsKeptLast S.held };
-
-    ghost troubles = { troubles_in };
-
-    ghost unkept = { unkept_in };
-
-    ghost more = { λ _ _ _. [] };
-
-    ghost tries = { tries_in };
-
-    ghost decisions = { λ _. None };
-
-    ghost losses = { λ _. no_losses };
-
-    fn keep_at_tick(&mut self, alloc: Global, gateway: &Gateway) {
+impl<S: Store + Drop> Kept<S> {
+    /// Keeps the state of the gateway at a tick, if that is due.
+    pub(crate) fn keep_at_tick(&mut self, alloc: Global, gateway: &Gateway)
+        ensures { IsKeptAtTick S.held self.old gateway.now self.new }
+    {
         if let Kept::In(keeper) = self {
             keeper.keep_at_tick(alloc, gateway);
         }
     }
 
-    fn adopt(&mut self, alloc: Global, successor: Successor, gateway: &Gateway) {
-        self.keep_for(alloc, successor.origin, gateway);
-    }
-
-    fn keep_last(&mut self, alloc: Global, gateway: &Gateway) {
-        self.keep_once_more(alloc, gateway);
-    }
-
-    fn troubles(&self) -> Troubles {
-        Troubles::of_state(self.failing())
-    }
-
-    fn unkept(&self) -> u64 {
-        match self {
-            Kept::Nowhere => 0,
-            Kept::In(keeper) => keeper.unkept(),
-        }
-    }
-
-    fn tries(&self) -> Option<StateTries> {
-        match self {
-            Kept::Nowhere => None,
-            Kept::In(keeper) => Some(StateTries {
-                is_kept: !keeper.failing().is_some(),
-                unkept: keeper.unkept(),
-            }),
-        }
-    }
-
-    fn decisions<'a>(&'a self, nothing: &'a Option<Tally>) -> &'a Option<Tally> {
-        nothing
-    }
-
-    fn losses(&self) -> Losses {
-        Losses {
-            unwatched: 0,
-            trial_lines: 0,
-            audit_lines: 0,
-        }
-    }
-
-    fn write_more<E: OctetSink>(
-        &self,
-        _rules: bool,
-        _gateway: &Gateway,
-        _errors: &mut E,
-    ) -> Result<(), WriteFailed> {
-        Ok(())
-    }
-}
-
-impl<S: Store + Drop> Kept<S> {
     /// Keeps the state of another gateway at once, of which this is configured.
     pub(crate) fn keep_for(&mut self, alloc: Global, origin: Origin, gateway: &Gateway)
         ensures { (c : Configuration) → origin ≡ origin_of c → IsKeptFor S.held self.old c gateway.now self.new }
@@ -228,6 +168,29 @@ impl<S: Store + Drop> Kept<S> {
         match self {
             Kept::Nowhere => None,
             Kept::In(keeper) => keeper.failing(),
+        }
+    }
+
+    /// How many tries failed so far.
+    pub(crate) fn unkept(&self) -> u64
+        ensures { result ≡ unkept_in self.now }
+    {
+        match self {
+            Kept::Nowhere => 0,
+            Kept::In(keeper) => keeper.unkept(),
+        }
+    }
+
+    /// How the state is kept, if it is.
+    pub(crate) fn tries(&self) -> Option<StateTries>
+        ensures { result ≡ tries_in self.now }
+    {
+        match self {
+            Kept::Nowhere => None,
+            Kept::In(keeper) => Some(StateTries {
+                is_kept: !keeper.failing().is_some(),
+                unkept: keeper.unkept(),
+            }),
         }
     }
 }

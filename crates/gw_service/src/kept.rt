@@ -15,13 +15,13 @@ ghost use Rattle.gw_turns.specs.Stretch.{CanCount};
 ghost use Rattle.gw_turns.specs.Tally.{no_tally};
 ghost use Rattle.gw_service.specs.Fault.{fault_of_opening};
 ghost use Rattle.gw_system.specs.Opening.{IsNote};
-ghost use Rattle.gw_service.specs.Kept.{AreRequestsUnder, IsLastDenial, IsMetricsUnder, IsStateUnder, IsStoreUnder, IsTextBefore, IsTrialNote, IsTrialNoteOf, IsUnprepared, KeepsFirst, LeavesKept, LeavesWithState, given, line_read, names_of, outcome_by, outcome_of_stop, state_machine, text_before};
+ghost use Rattle.gw_service.specs.Kept.{AreRequestsUnder, IsLastDenial, IsMetricsUnder, IsStateUnder, IsStoreUnder, IsTextBefore, IsTrialNote, IsTrialNoteOf, IsUnprepared, KeepsFirst, LeavesKept, LeavesWithState, given, line_read, names_of, outcome_by, outcome_of_stop, service_by, state_machine, text_before};
 ghost use Rattle.gw_notices.specs.Startup.{startup_line};
 ghost use Rattle.gw_notices.specs.Reload.{counts_since};
-ghost use Rattle.gw_service.specs.Serving.{IsFlushedFor, LogStays, ends, log_held, machine, service};
+ghost use Rattle.gw_service.specs.Serving.{IsFlushedFor, LogStays, ends, log_held, machine};
 ghost use Rattle.gw_notices.specs.Notices.{no_troubles};
 ghost use Rattle.gw_service.specs.Start.{BeginsAs};
-ghost use Rattle.gw_service.specs.Watch.{IsWatcherUnder, watch_names};
+ghost use Rattle.gw_service.specs.Watch.{WatchesUnder, watch_names};
 ghost use Rattle.gw_system.specs.Host.{OpensAtLine};
 ghost use Rattle.gw_system.specs.Requests.{text_found};
 
@@ -29,13 +29,14 @@ use crate::edition::Edition;
 use crate::fault::ServiceFault;
 use crate::keeping::{Kept, StateKeeper};
 use crate::metrics::metrics_in;
+use crate::order::Order;
 use crate::running::{End, Running};
 use crate::serving::{Opening, open};
 use crate::start::{MAX_STATE_OCTETS, begin_after, saved_in, start_text};
 use crate::stats::Schedule;
 use crate::watch::watcher_under;
 use gw_configuration::{Config, RunOptions};
-use gw_core::Gateway;
+use gw_core::{Both, Gateway};
 use gw_log_words::Notes;
 use gw_notices::{Checksum, ReloadCounts, Troubles, trial_line, warning_of, write_note};
 use gw_policy_text::{MAX_OCTETS, read_config};
@@ -65,8 +66,8 @@ pub(crate) struct Before<S, Q, L: OctetSink + Drop> {
     pub metrics: Option<S>,
     /// What asks to read the configuration again, if something does.
     pub requests: Option<Q>,
-    /// What watches, if something does.
-    pub watcher: Option<Watcher<L, L>>,
+    /// What watches. It may watch nothing.
+    pub watcher: Watcher<L, L>,
     /// The checksum of the configuration's text.
     pub checksum: Checksum,
 }
@@ -250,7 +251,7 @@ pub(crate) fn prepare<H: Host>(
     ensures requests { IfOk result (λ before. AreRequestsUnder (H.ReloadsOpen host.now)
         (option_map string_bytes options.now.reload) (string_bytes options.now.config) before.requests) }
     ensures watcher { let LogOpens = OpensAtLine (H.LogOpens host.now) (H.LogIsCut host.now) H.Log.held in
-        IfOk result (λ before. IsWatcherUnder (H.FileReads host.now) (H.LastDenials host.now) LogOpens config.now
+        IfOk result (λ before. WatchesUnder (H.FileReads host.now) (H.LastDenials host.now) LogOpens config.now
         (watch_names options.now) before.watcher) }
     ensures checksum { IfOk result (λ before. before.checksum ≡ checksum) }
     ensures fault { IfErr result (IsUnprepared (state_machine (H.FileReads host.now) (H.LastDenials host.now)
@@ -310,25 +311,32 @@ fn kept_in<S: Store + Drop>(
     }
 }
 
-/// A gateway of this configuration that is about to run.
+/// What watches a gateway, and then keeps its state: what is recorded of an event is written before its state is kept, so no write is
+/// in force that an audit lacks.
+type WatchedKeeper<S, L> = Both<Watcher<L, L>, Kept<S>>;
+
+/// A gateway of this configuration that is about to run for so many turns.
 fn make_running<S: Store + Drop, Q: Requests + Drop, T: OctetSink + Drop>(
     alloc: Global,
     config: Config,
     before: Before<S, Q, T>,
-) -> Result<Running<Kept<S>, Option<Q>, S>, AllocError>
+    turns: u64,
+) -> Result<Running<WatchedKeeper<S, T>, Option<Q>, S>, AllocError>
     ensures origin { IfOk result (λ r. r.origin ≡ origin_of config) }
     ensures begins { IfOk result
         (λ r. BeginsAs config before.saved (option_map (λ line. line.items) before.line) r.gateway) }
-    ensures keeps { IfOk result (λ r. KeepsFirst S.held before.store config r.gateway r.keeper) }
+    ensures watches { IfOk result (λ r. r.keeper.first ≡ before.watcher) }
+    ensures keeps { IfOk result (λ r. KeepsFirst S.held before.store config r.gateway r.keeper.second) }
     ensures requests { IfOk result (λ r. r.requests ≡ before.requests) }
     ensures counts { IfOk result (λ r. r.counts ≡ counts_since r.gateway.ticks before.checksum) }
     ensures announcing { IfOk result (λ r. r.announcing ≡ first_announcing) }
+    ensures left { IfOk result (λ r. r.state.left ≡ turns) }
     ensures served { IfOk result (λ r. r.state.served ≡ zero_counts) }
     ensures tally { IfOk result (λ r. r.state.tally ≡ no_tally) }
     ensures said { IfOk result (λ r. r.said ≡ no_troubles) }
     ensures metrics { IfOk result (λ r. r.metrics ≡ option_map nothing_written before.metrics) }
-    ensures ready { IfOk result (λ r. (failures turns : ℕ) → failures < 2 ^ 127 → turns < 2 ^ 63 →
-        CanCount r.state.served r.state.tally failures turns) }
+    ensures ready { IfOk result (λ r. (failures : ℕ) → failures < 2 ^ 127 → turns < 2 ^ 63 →
+        CanCount r.state.served r.state.tally failures r.state.left) }
 {
     let Before {
         saved,
@@ -337,22 +345,25 @@ fn make_running<S: Store + Drop, Q: Requests + Drop, T: OctetSink + Drop>(
         store,
         metrics,
         requests,
-        watcher: _,
+        watcher,
         checksum,
     } = before;
     let origin = Origin::of(alloc, &config)?;
     let kept = Origin::of(alloc, &config)?;
     let gateway = begin_after(alloc, config, saved, &line)?;
-    let keeper = kept_in(alloc, store, kept, &gateway);
+    let kept = kept_in(alloc, store, kept, &gateway);
     let counts = ReloadCounts::since(gateway.counts().ticks, checksum);
     Ok(Running {
         gateway,
         origin,
-        keeper,
+        keeper: Both {
+            first: watcher,
+            second: kept,
+        },
         requests,
         counts,
         announcing: Announcing::first(),
-        state: ServeState::new(alloc),
+        state: ServeState::new(alloc, turns),
         said: Troubles::none(),
         metrics: metrics_in(metrics),
     })
@@ -390,7 +401,22 @@ fn is_kept<S, Q, T: OctetSink + Drop>(before: &Before<S, Q, T>) -> bool
     before.requests.is_some() || before.store.is_some()
 }
 
-/// Runs a gateway of this configuration on a log, for so many turns, and says at the start if its state isn't kept.
+/// What a run begins with once all is open: the configuration of its gateway, what was read and made before, and its options.
+#[derive(Drop)]
+struct Ready<'a, S, Q, L: OctetSink + Drop> {
+    config: Config,
+    before: Before<S, Q, L>,
+    options: &'a RunOptions,
+}
+
+/// The sockets and the log, if it is in a file, that are open.
+#[derive(Drop)]
+struct Opened<X, L> {
+    sockets: X,
+    log: Option<L>,
+}
+
+/// Runs a gateway on a log, as its options ask, and says at the start if its state isn't kept.
 /// Faults: `Log`, `Memory` and `CountEnd`, and `Store` if it was asked to stop and its state isn't kept.
 fn run_on<
     S: Store + Drop,
@@ -401,23 +427,26 @@ fn run_on<
     E: OctetSink,
 >(
     alloc: Global,
-    config: Config,
-    mut before: Before<S, Q, T>,
+    ready: Ready<'_, S, Q, T>,
     sockets: &mut X,
     log: &mut L,
     errors: &mut E,
-    options: &RunOptions,
 ) -> Result<(), ServiceFault>
     requires failures { X.failure_count sockets.old < 2 ^ 127 }
-    ensures ran { (text : List ℕ) × LeavesKept (given S.held Q.recorded T.held before) config (service options.now.turns options.now.stats options.now.stats_rules options.now.verbose options.now.holds)
-        (ends (L.held log.old) (X.calls sockets.old)) (ends (L.held log.new) (X.calls sockets.new)) text result
+    ensures ran { (text : List ℕ) × LeavesKept (given S.held Q.recorded T.held ready.entry.before) ready.entry.config
+        (service_by ready.entry.options.now) (ends (L.held log.old) (X.calls sockets.old)) (ends (L.held log.new) (X.calls sockets.new)) text result
         × (E.NeverFails errors.old → Appends (E.held errors.old) (E.held errors.new) text) }
     ensures lasting { E.NeverFails errors.old → E.NeverFails errors.new }
 {
+    let Ready {
+        config,
+        before,
+        options,
+    } = ready;
     let reloads = before.requests.is_some();
     let keeps = is_kept(&before);
-    let watcher = before.watcher.take();
-    let mut running = make_running(alloc, config, before)?;
+    let turns = options.turns;
+    let mut running = make_running(alloc, config, before, turns)?;
     let schedule = Schedule {
         start: running.gateway.counts(),
         seconds: options.stats,
@@ -426,29 +455,13 @@ fn run_on<
         reloads,
         verbose: options.verbose,
     };
-    let turns = options.turns;
-    match watcher {
-        Some(watcher) => {
-            let mut watched = running.watched_by(watcher);
-            if options.holds {
-                let mut held = watched.holding(alloc);
-                let answer = held.run(alloc, sockets, log, errors, &schedule, turns);
-                outcome_of(answer, held.running.keeper.troubles().state)
-            } else {
-                let answer = watched.run(alloc, sockets, log, errors, &schedule, turns);
-                outcome_of(answer, watched.keeper.troubles().state)
-            }
-        }
-        None => {
-            if options.holds {
-                let mut held = running.holding(alloc);
-                let answer = held.run(alloc, sockets, log, errors, &schedule, turns);
-                outcome_of(answer, held.running.keeper.troubles().state)
-            } else {
-                let answer = running.run(alloc, sockets, log, errors, &schedule, turns);
-                outcome_of(answer, running.keeper.troubles().state)
-            }
-        }
+    if options.holds {
+        let mut held = running.holding(alloc);
+        let answer = held.run(sockets, log, errors, &schedule);
+        outcome_of(answer, held.running.keeper.troubles().state)
+    } else {
+        let answer = running.run(sockets, log, errors, &schedule);
+        outcome_of(answer, running.keeper.troubles().state)
     }
 }
 
@@ -462,32 +475,31 @@ fn run_open<
     E: OctetSink,
 >(
     alloc: Global,
-    config: Config,
-    before: Before<S, Q, L>,
-    sockets: &mut X,
-    log: &mut Option<L>,
+    ready: Ready<'_, S, Q, L>,
+    opened: &mut Opened<X, L>,
     output: &mut BufWriter<W>,
     errors: &mut E,
-    options: &RunOptions,
 ) -> Result<(), ServiceFault>
-    requires failures { X.failure_count sockets.old < 2 ^ 127 }
-    requires unbuffered { log.old ≡ None → writer_buffer output.old ≡ [] }
+    requires failures { X.failure_count opened.old.sockets < 2 ^ 127 }
+    requires unbuffered { opened.old.log ≡ None → writer_buffer output.old ≡ [] }
     ensures ran { let held = writer_contents W.contents output.old in
         let holds = writer_contents W.contents output.new in
-        (text : List ℕ) × LeavesKept (given S.held Q.recorded L.held before) config (service options.now.turns options.now.stats options.now.stats_rules options.now.verbose options.now.holds)
-        (ends (log_held L.held log.old held) (X.calls sockets.old))
-        (ends (log_held L.held log.new holds) (X.calls sockets.new)) text result
+        (text : List ℕ) × LeavesKept (given S.held Q.recorded L.held ready.entry.before) ready.entry.config
+        (service_by ready.entry.options.now)
+        (ends (log_held L.held opened.old.log held) (X.calls opened.old.sockets))
+        (ends (log_held L.held opened.new.log holds) (X.calls opened.new.sockets)) text result
         × (E.NeverFails errors.old → Appends (E.held errors.old) (E.held errors.new) text) }
     ensures lasting { E.NeverFails errors.old → E.NeverFails errors.new }
-    ensures log { LogStays log.old log.new (writer_contents W.contents output.old)
+    ensures log { LogStays opened.old.log opened.new.log (writer_contents W.contents output.old)
         (writer_contents W.contents output.new) }
     ensures buffer { writer_buffer output.new ≡ writer_buffer output.old }
 {
+    let Opened { sockets, log } = opened;
     match log {
-        Some(log) => run_on(alloc, config, before, sockets, log, errors, options),
+        Some(log) => run_on(alloc, ready, sockets, log, errors),
         None => {
             let log = output.get_mut();
-            run_on(alloc, config, before, sockets, log, errors, options)
+            run_on(alloc, ready, sockets, log, errors)
         }
     }
 }
@@ -513,8 +525,7 @@ fn refused<E: OctetSink>(
 /// and all else as it was. Faults: those of [`serve_ports`](crate::serve_ports).
 pub(crate) fn serve_kept<H: Host, W: Write + Drop, E: OctetSink>(
     alloc: Global,
-    edition: Edition,
-    options: &RunOptions,
+    order: Order<'_>,
     host: &mut H,
     output: &mut BufWriter<W>,
     errors: &mut E,
@@ -523,16 +534,18 @@ pub(crate) fn serve_kept<H: Host, W: Write + Drop, E: OctetSink>(
         (machine (OpensAtLine (H.LogOpens host.old) (H.LogIsCut host.old) H.Log.held)
         (H.SocketsOpen host.old) (H.RoutesIp host.old) (H.Closes host.new) H.Log.held H.Sockets.calls)
         (state_machine (H.FileReads host.old) (H.LastDenials host.old) (H.StoreOpens host.old) (H.ReloadsOpen host.old)
-        H.StateStore.held H.Reloads.recorded) (names_of options.now)
-        (writer_contents W.contents output.old) (writer_contents W.contents output.new) edition
-        (service options.now.turns options.now.stats options.now.stats_rules options.now.verbose options.now.holds) options.now.verbose (startup_line options.now.verbose edition.config (option_map string_bytes options.now.log)) said result
+        H.StateStore.held H.Reloads.recorded) (names_of order.entry.options.now)
+        (writer_contents W.contents output.old) (writer_contents W.contents output.new) order.entry.edition
+        (service_by order.entry.options.now) order.entry.options.now.verbose (startup_line order.entry.options.now.verbose
+        order.entry.edition.config (option_map string_bytes order.entry.options.now.log)) said result
         × (E.NeverFails errors.old → Appends (E.held errors.old) (E.held errors.new) said) }
     ensures lasting { E.NeverFails errors.old → E.NeverFails errors.new }
-    ensures flush { OnOk result (IsFlushedFor (option_map string_bytes options.now.log)
+    ensures flush { OnOk result (IsFlushedFor (option_map string_bytes order.entry.options.now.log)
         (writer_buffer output.old) (writer_buffer output.new)) }
 {
+    let Order { edition, options } = order;
     let Edition { config, checksum } = edition;
-    let mut sockets = match host.open_sockets(alloc, config.ports()) {
+    let sockets = match host.open_sockets(alloc, config.ports()) {
         Ok(sockets) => sockets,
         Err(failure) => return Err(refused(alloc, options, OpenFailure::Sockets(failure), errors)),
     };
@@ -541,20 +554,18 @@ pub(crate) fn serve_kept<H: Host, W: Write + Drop, E: OctetSink>(
         Err(fault) => return Err(fault),
     };
     match open(alloc, &config, options, host, output) {
-        Ok(Opening { line, mut log }) => {
+        Ok(Opening { line, log }) => {
             write_note(&line, errors);
             write_note(warning_of(host, options.verbose), errors);
             write_note(&before.text, errors);
-            let outcome = run_open(
-                alloc,
+            let ready = Ready {
                 config,
                 before,
-                &mut sockets,
-                &mut log,
-                output,
-                errors,
                 options,
-            );
+            };
+            let mut opened = Opened { sockets, log };
+            let outcome = run_open(alloc, ready, &mut opened, output, errors);
+            let Opened { sockets, log } = opened;
             host.close(sockets, log);
             outcome
         }

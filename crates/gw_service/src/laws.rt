@@ -13,7 +13,7 @@ ghost use Rattle.gw_notices.specs.declared.reload.ReloadCounts.{ReloadCounts};
 ghost use Rattle.gw_service.specs.Kept.{Given};
 ghost use Rattle.gw_service.specs.Metering.{meters_by};
 ghost use Rattle.gw_service.specs.WatchedRuns.{AuditIsWhole, CountsAreWhole, TrialIsWhole};
-ghost use Rattle.gw_service.specs.Laws.{ChecksumIsInForce, IsAsServed, IsAsUnwatched, NobodyAsks, NumbersGoOn, NumbersGoOnAlone, RulesAreInForce, RulesStay};
+ghost use Rattle.gw_service.specs.Laws.{ChecksumIsInForce, IsAsPlain, IsAsServed, IsAsUnwatched, NobodyAsks, NumbersGoOn, NumbersGoOnAlone, RulesAreInForce, RulesStay};
 
 use crate::keeping::StateKeeper;
 use crate::waiting::MOST_WAITING;
@@ -46,6 +46,12 @@ pub fn numbers_go_on()
 /// without it.
 pub fn as_unwatched<S: Store + Drop, Q: Requests + Drop, L: OctetSink + Drop>()
     ensures { (given : Given S Q L) → IsAsUnwatched given }
+{}
+
+/// A run that watches nothing is the plain run, also in what it reports, and in what it answers; and so is one that goes on if its log
+/// fails.
+pub fn as_plain<S: Store + Drop, Q: Requests + Drop, L: OctetSink + Drop>()
+    ensures { (given : Given S Q L) → IsAsPlain given }
 {}
 
 /// If no request file is named, nobody asks: no look finds a request, and the configuration in force stays to the end.

@@ -146,8 +146,7 @@ pub(crate) fn put_last<K: StateKeeper, S: Store + Drop>(
 {
     if let Some(metrics) = metrics {
         if let Some(measures) = measured {
-            let nothing = None;
-            let decisions = keeper.decisions(&nothing);
+            let decisions = keeper.decisions();
             let ports = ports_of(&measures.report, gateway.relay().ports());
             let lost = metrics.lost();
             let counts = counts_of(measures, gateway.rules(), decisions, ports.as_slice(), lost);
@@ -168,8 +167,7 @@ pub(crate) fn put_due<K: StateKeeper, S: Store + Drop>(
 {
     if let Some(metrics) = metrics {
         if let Some(measures) = measured {
-            let nothing = None;
-            let decisions = keeper.decisions(&nothing);
+            let decisions = keeper.decisions();
             let ports = ports_of(&measures.report, gateway.relay().ports());
             let lost = metrics.lost();
             let counts = counts_of(measures, gateway.rules(), decisions, ports.as_slice(), lost);

@@ -23,11 +23,11 @@ ghost use Rattle.gw_service.specs.Stats.{all_stats, due_stats, end_stats};
 use crate::holding::Holding;
 use crate::holding_run::HoldingRun;
 use crate::keeping::StateKeeper;
-use crate::metrics::{failing_of, lost_of, put_due, put_last};
+use crate::metrics::{failing_of, put_due, put_last};
 use crate::reload::{Adopted, reloaded};
-use crate::stats::{RunCounts, Schedule};
+use crate::stats::Schedule;
 use crate::waiting::Waiting;
-use gw_core::{Both, Gateway};
+use gw_core::Gateway;
 use gw_log_words::Notes;
 use gw_notices::metrics::Metrics;
 use gw_notices::{
@@ -131,7 +131,6 @@ impl<K: StateKeeper, Q: Requests, M: Store + Drop> Running<K, Q, M> {
     /// Takes the configuration of what was read over, or goes on as before; answers the request, and reports and notes it.
     fn reload<L: Notes, E: OctetSink>(
         &mut self,
-        alloc: Global,
         read: &Result<Option<Vec<u8>>, ReadFailure>,
         log: &mut L,
         errors: &mut E,
@@ -149,6 +148,7 @@ impl<K: StateKeeper, Q: Requests, M: Store + Drop> Running<K, Q, M> {
         ensures metrics { self.new.metrics ≡ self.old.metrics }
         ensures lasts { E.NeverFails errors.old → E.NeverFails errors.new }
     {
+        let alloc = self.state.alloc;
         match reloaded(alloc, &self.gateway, &self.origin, read) {
             Ok(
                 Adopted {
@@ -185,7 +185,6 @@ impl<K: StateKeeper, Q: Requests, M: Store + Drop> Running<K, Q, M> {
     /// whether there is one to stop.
     fn look<L: Notes, E: OctetSink>(
         &mut self,
-        alloc: Global,
         schedule: &Schedule,
         log: &mut L,
         errors: &mut E,
@@ -203,20 +202,15 @@ impl<K: StateKeeper, Q: Requests, M: Store + Drop> Running<K, Q, M> {
         ensures asking { result ≡ true → IsAsking (Q.recorded self.new.requests) }
         ensures lasts { E.NeverFails errors.old → E.NeverFails errors.new }
     {
-        match self.requests.take(alloc, MAX_OCTETS) {
+        match self.requests.take(self.state.alloc, MAX_OCTETS) {
             None => false,
             Some(Request::Reload(read)) => {
-                self.reload(alloc, &read, log, errors);
+                self.reload(&read, log, errors);
                 false
             }
             Some(Request::Stop) => true,
             Some(Request::Status) => {
-                let counts = RunCounts {
-                    reloads: self.counts,
-                    announcing: self.announcing,
-                    lost_metrics: lost_of(&self.metrics),
-                };
-                let text = schedule.status(alloc, &self.gateway, &self.state, &self.keeper, counts);
+                let text = schedule.status(self);
                 self.requests.answer(status_or(&text));
                 false
             }
@@ -242,7 +236,6 @@ impl<K: StateKeeper, Q: Requests, M: Store + Drop> Running<K, Q, M> {
     /// Does what is due at a tick: does what is due of the state, and looks for a request. It answers whether there is one to stop.
     fn at_tick<L: Notes, E: OctetSink>(
         &mut self,
-        alloc: Global,
         schedule: &Schedule,
         log: &mut L,
         errors: &mut E,
@@ -260,46 +253,43 @@ impl<K: StateKeeper, Q: Requests, M: Store + Drop> Running<K, Q, M> {
         ensures asking { result ≡ true → IsAsking (Q.recorded self.new.requests) }
         ensures lasts { E.NeverFails errors.old → E.NeverFails errors.new }
     {
-        self.keeper.keep_at_tick(alloc, &self.gateway);
-        self.look(alloc, schedule, log, errors)
+        self.keeper.keep_at_tick(self.state.alloc, &self.gateway);
+        self.look(schedule, log, errors)
     }
 
-    /// Serves a stretch of at most so many turns, and does what is due after it: after a tick it makes the log last first, and then
+    /// Serves a stretch of at most the turns that are left, and does what is due after it: after a tick it makes the log last first, and then
     /// does also what is to be announced. If another tick is due already, what is due is left to that one. It answers how the run
     /// ends, if it is to stop, or the log can't be made to last; then nothing else is done. Faults: those of serving.
     pub(crate) fn advance<W: Wire, L: Notes, E: OctetSink>(
         &mut self,
-        alloc: Global,
         wire: &mut W,
         log: &mut L,
         errors: &mut E,
         schedule: &Schedule,
-        turns: u64,
     ) -> Result<Option<End>, ServeFault>
-        requires count { CanCount self.old.state.served self.old.state.tally (W.failure_count wire.old) turns }
+        requires count { CanCount self.old.state.served self.old.state.tally (W.failure_count wire.old) self.old.state.left }
         ensures advances { (c : Configuration) → self.old.origin ≡ origin_of c →
             let before = stage c (moment (scene self.old.gateway (L.held log.old) (W.calls wire.old)) self.old.keeper
             self.old.state.served self.old.state.tally) (Q.recorded self.old.requests) self.old.counts self.old.announcing self.old.said (metered self.old.metrics) in
             (d : Configuration) × (text : List ℕ) × (self.new.origin ≡ origin_of d)
             × Advances (manner K.Passes K.Ticks K.Adopts K.troubles
             (due_stats K.unkept K.more (reporting_by schedule.now)) (all_stats K.unkept K.more (reporting_by schedule.now))
-            (meters_by schedule.now.start) K.Lasts) turns before result text
+            (meters_by schedule.now.start) K.Lasts) self.old.state.left before result text
             (stage d (moment (scene self.new.gateway (L.held log.new) (W.calls wire.new)) self.new.keeper
             self.new.state.served self.new.state.tally) (Q.recorded self.new.requests) self.new.counts self.new.announcing self.new.said (metered self.new.metrics))
             (edge (W.behind wire.new) (WasLasting L.IsLasting L.held log.new) (FailsToLast L.Syncs log.new)
             self.new.state.unwritten.items)
             × (E.NeverFails errors.old → Appends (E.held errors.old) (E.held errors.new) text) }
-        ensures rest { (rest : ℕ) → self.new.state.served.turns + rest ≤ self.old.state.served.turns + turns →
-            CanCount self.new.state.served self.new.state.tally (W.failure_count wire.new) rest }
-        ensures more { 0 < turns → self.old.state.served.turns < self.new.state.served.turns }
-        ensures most { self.new.state.served.turns ≤ self.old.state.served.turns + turns }
+        ensures left { self.new.state.served.turns + self.new.state.left ≡ self.old.state.served.turns + self.old.state.left }
+        ensures rest { CanCount self.new.state.served self.new.state.tally (W.failure_count wire.new) self.new.state.left }
+        ensures more { 0 < self.old.state.left → self.old.state.served.turns < self.new.state.served.turns }
         ensures asking { result ≡ Ok (Some End.Stopped) → IsAsking (Q.recorded self.new.requests) }
         ensures lasts { E.NeverFails errors.old → E.NeverFails errors.new }
     {
         let keeper = &mut self.keeper;
         match self
             .state
-            .serve_to_tick(alloc, &mut self.gateway, wire, log, keeper, turns)
+            .serve_to_tick(&mut self.gateway, wire, log, keeper)
         {
             Ok(Pause::Turns) => Ok(None),
             Ok(Pause::Tick) => {
@@ -309,16 +299,12 @@ impl<K: StateKeeper, Q: Requests, M: Store + Drop> Running<K, Q, M> {
                 let Ok(_synced) = log.sync() else {
                     return Ok(Some(End::Unsynced));
                 };
-                let stops = self.at_tick(alloc, schedule, log, errors);
+                let alloc = self.state.alloc;
+                let stops = self.at_tick(schedule, log, errors);
                 self.announcing.announce(alloc, &self.gateway, wire);
                 self.said = self.notice(errors);
-                let counts = RunCounts {
-                    reloads: self.counts,
-                    announcing: self.announcing,
-                    lost_metrics: lost_of(&self.metrics),
-                };
-                schedule.report_due(&self.gateway, &self.state, &self.keeper, counts, errors);
-                let measured = schedule.measure(&self.gateway, &self.state, &self.keeper, counts);
+                schedule.report_due(self, errors);
+                let measured = schedule.measure(self);
                 let was = failing_of(&self.metrics);
                 put_due(
                     alloc,
@@ -338,7 +324,7 @@ impl<K: StateKeeper, Q: Requests, M: Store + Drop> Running<K, Q, M> {
         }
     }
 
-    /// Serves a wire for so many turns, by stretches. After each tick behind which no other is due already the log is made to last,
+    /// Serves a wire for the turns that are left, by stretches. After each tick behind which no other is due already the log is made to last,
     /// and nothing more is served if it can't be; the keeper does what is due, and a request is looked for; if there is one to read the configuration again, that is done, and the gateway goes on by it, or as it is; after one to
     /// stop nothing more is served. If an announcement is due, it is made then. It reports as the schedule asks, and its metrics
     /// are put into their store when that is due.
@@ -348,39 +334,34 @@ impl<K: StateKeeper, Q: Requests, M: Store + Drop> Running<K, Q, M> {
     /// Those of [`serve`](gw_turns::serve).
     pub fn serve<W: Wire, L: Notes, E: OctetSink>(
         &mut self,
-        alloc: Global,
         wire: &mut W,
         log: &mut L,
         errors: &mut E,
         schedule: &Schedule,
-        turns: u64,
     ) -> Result<End, ServeFault>
-        requires count { CanCount self.old.state.served self.old.state.tally (W.failure_count wire.old) turns }
+        requires count { CanCount self.old.state.served self.old.state.tally (W.failure_count wire.old) self.old.state.left }
         ensures runs { (c : Configuration) → self.old.origin ≡ origin_of c →
             let before = stage c (moment (scene self.old.gateway (L.held log.old) (W.calls wire.old)) self.old.keeper
             self.old.state.served self.old.state.tally) (Q.recorded self.old.requests) self.old.counts self.old.announcing self.old.said (metered self.old.metrics) in
             (d : Configuration) × (links : List Link) × (self.new.origin ≡ origin_of d)
             × Runs (manner K.Passes K.Ticks K.Adopts K.troubles
             (due_stats K.unkept K.more (reporting_by schedule.now)) (all_stats K.unkept K.more (reporting_by schedule.now))
-            (meters_by schedule.now.start) K.Lasts) turns before result links
+            (meters_by schedule.now.start) K.Lasts) self.old.state.left before result links
             (stage d (moment (scene self.new.gateway (L.held log.new) (W.calls wire.new)) self.new.keeper
             self.new.state.served self.new.state.tally) (Q.recorded self.new.requests) self.new.counts self.new.announcing self.new.said (metered self.new.metrics))
             × (E.NeverFails errors.old → Appends (E.held errors.old) (E.held errors.new) (chain_text links)) }
         ensures asking { is_stopped result ≡ true → IsAsking (Q.recorded self.new.requests) }
         ensures lasts { E.NeverFails errors.old → E.NeverFails errors.new }
     {
-        let mut left = turns;
-        for _ in 0..turns {
-            if left == 0 {
+        for _ in 0..self.state.left {
+            if self.state.left == 0 {
                 return Ok(End::Turns);
             }
-            let before = self.state.served.turns;
-            let ended = self.advance(alloc, wire, log, errors, schedule, left)?;
+            let ended = self.advance(wire, log, errors, schedule)?;
             match ended {
                 Some(end) => return Ok(end),
                 None => {}
             }
-            left -= self.state.served.turns - before;
         }
         Ok(End::Turns)
     }
@@ -392,17 +373,12 @@ impl<K: StateKeeper, Q: Requests, M: Store + Drop> Running<K, Q, M> {
             (lost_by (metered self.now.metrics)) self.now.gateway self.now.state.served self.now.state.tally) }
         ensures lasts { E.NeverFails errors.old → E.NeverFails errors.new }
     {
-        let counts = RunCounts {
-            reloads: self.counts,
-            announcing: self.announcing,
-            lost_metrics: lost_of(&self.metrics),
-        };
-        schedule.report_last(&self.gateway, &self.state, &self.keeper, counts, errors);
+        schedule.report_last(self, errors);
     }
 
     /// Does what is due at the end of a run that was asked to stop, once its state was kept: puts its metrics once more, reports
     /// what was done, and answers that it stopped, or why its state isn't kept.
-    fn stop<E: OctetSink>(&mut self, alloc: Global, schedule: &Schedule, errors: &mut E)
+    fn stop<E: OctetSink>(&mut self, schedule: &Schedule, errors: &mut E)
         requires asking { IsAsking (Q.recorded self.old.requests) }
         ensures keeper { self.new.keeper ≡ self.old.keeper }
         ensures put { MetersLast (metered self.old.metrics) (seconds_of schedule.now.start self.old.gateway self.old.state.served
@@ -415,14 +391,9 @@ impl<K: StateKeeper, Q: Requests, M: Store + Drop> Running<K, Q, M> {
             ++ stop_line (K.troubles self.old.keeper).state) }
         ensures lasts { E.NeverFails errors.old → E.NeverFails errors.new }
     {
-        let counts = RunCounts {
-            reloads: self.counts,
-            announcing: self.announcing,
-            lost_metrics: lost_of(&self.metrics),
-        };
-        let measured = schedule.measure(&self.gateway, &self.state, &self.keeper, counts);
+        let measured = schedule.measure(self);
         put_last(
-            alloc,
+            self.state.alloc,
             &mut self.metrics,
             &measured,
             &self.gateway,
@@ -438,7 +409,6 @@ impl<K: StateKeeper, Q: Requests, M: Store + Drop> Running<K, Q, M> {
     /// due if it was asked to stop.
     pub(crate) fn end<E: OctetSink>(
         &mut self,
-        alloc: Global,
         answer: Result<End, ServeFault>,
         schedule: &Schedule,
         errors: &mut E,
@@ -453,15 +423,15 @@ impl<K: StateKeeper, Q: Requests, M: Store + Drop> Running<K, Q, M> {
             × (E.NeverFails errors.old → Appends (E.held errors.old) (E.held errors.new) text) }
         ensures lasts { E.NeverFails errors.old → E.NeverFails errors.new }
     {
-        self.keeper.keep_last(alloc, &self.gateway);
+        self.keeper.keep_last(self.state.alloc, &self.gateway);
         if is_stopped(answer) {
-            self.stop(alloc, schedule, errors);
+            self.stop(schedule, errors);
         } else {
             self.report_end(schedule, errors);
         }
     }
 
-    /// Serves a wire for so many turns as [`Running::serve`] does. Before it reports what isn't kept or recorded, and announces
+    /// Serves a wire for the turns that are left, as [`Running::serve`] does. Before it reports what isn't kept or recorded, and announces
     /// the gateway's networks on each port. After it, whatever ended it, it keeps its state once more; puts its metrics once more
     /// if it was asked to stop; reports what was done, if the schedule asks for that; and answers that it stopped, or why its state
     /// isn't kept.
@@ -471,14 +441,12 @@ impl<K: StateKeeper, Q: Requests, M: Store + Drop> Running<K, Q, M> {
     /// Those of [`serve`](gw_turns::serve).
     pub(crate) fn run<W: Wire, L: Notes, E: OctetSink>(
         &mut self,
-        alloc: Global,
         wire: &mut W,
         log: &mut L,
         errors: &mut E,
         schedule: &Schedule,
-        turns: u64,
     ) -> Result<End, ServeFault>
-        requires count { CanCount self.old.state.served self.old.state.tally (W.failure_count wire.old) turns }
+        requires count { CanCount self.old.state.served self.old.state.tally (W.failure_count wire.old) self.old.state.left }
         requires untold { self.old.said ≡ no_troubles }
         ensures runs { (c : Configuration) → self.old.origin ≡ origin_of c →
             let before = stage c (moment (scene self.old.gateway (L.held log.old) (W.calls wire.old)) self.old.keeper
@@ -487,14 +455,15 @@ impl<K: StateKeeper, Q: Requests, M: Store + Drop> Running<K, Q, M> {
             let after = ends (L.held log.new) (W.calls wire.new) in
             (text : List ℕ) × RunsFrom (manner K.Passes K.Ticks K.Adopts K.troubles (due_stats K.unkept K.more how)
             (all_stats K.unkept K.more how) (meters_by how.start) K.Lasts)
-            (end_stats K.unkept K.more how) how.start turns before result after (rest self.new.keeper (Q.recorded self.new.requests)) text
+            (end_stats K.unkept K.more how) how.start self.old.state.left before result after (rest self.new.keeper (Q.recorded self.new.requests)) text
             × (E.NeverFails errors.old → Appends (E.held errors.old) (E.held errors.new) text) }
         ensures lasts { E.NeverFails errors.old → E.NeverFails errors.new }
     {
+        let alloc = self.state.alloc;
         self.said = self.notice(errors);
         self.announcing.announce(alloc, &self.gateway, wire);
-        let answer = self.serve(alloc, wire, log, errors, schedule, turns);
-        self.end(alloc, answer, schedule, errors);
+        let answer = self.serve(wire, log, errors, schedule);
+        self.end(answer, schedule, errors);
         answer
     }
 
@@ -531,47 +500,6 @@ impl<K: StateKeeper, Q: Requests, M: Store + Drop> Running<K, Q, M> {
                 metrics,
             },
             waiting: Waiting::new(alloc),
-        }
-    }
-
-    /// The same gateway, which is also watched: what is recorded of an event is written before its state is kept, so no write is in
-    /// force that an audit lacks.
-    pub(crate) fn watched_by<V>(self, watcher: V) -> Running<Both<V, K>, Q, M>
-        ensures gateway { result.gateway ≡ self.gateway }
-        ensures origin { result.origin ≡ self.origin }
-        ensures first { result.keeper.first ≡ watcher }
-        ensures second { result.keeper.second ≡ self.keeper }
-        ensures requests { result.requests ≡ self.requests }
-        ensures counts { result.counts ≡ self.counts }
-        ensures announcing { result.announcing ≡ self.announcing }
-        ensures state { result.state ≡ self.state }
-        ensures said { result.said ≡ self.said }
-        ensures metrics { result.metrics ≡ self.metrics }
-    {
-        let Running {
-            gateway,
-            origin,
-            keeper,
-            requests,
-            counts,
-            announcing,
-            state,
-            said,
-            metrics,
-        } = self;
-        Running {
-            gateway,
-            origin,
-            keeper: Both {
-                first: watcher,
-                second: keeper,
-            },
-            requests,
-            counts,
-            announcing,
-            state,
-            said,
-            metrics,
         }
     }
 }

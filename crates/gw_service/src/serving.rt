@@ -11,9 +11,9 @@ ghost use Rattle.std.specs.List.{list_any};
 ghost use Rattle.gw_service.specs.Watch.{is_unaudited, unaudited_note};
 ghost use Rattle.gw_service.specs.Serving.{IsFlushedFor, LogIsOpen, LogIsShut, machine};
 
-use crate::edition::Edition;
 use crate::fault::ServiceFault;
 use crate::kept::serve_kept;
+use crate::order::Order;
 use gw_configuration::{Config, RunOptions};
 use gw_notices::{startup_line, write_note};
 use gw_script::OctetSink;
@@ -141,8 +141,7 @@ fn waiting_note(waits: bool) -> &'static str
 /// audit is, `Trial` and `Audit`. At `Socket` nothing else was opened, and at those of a state, a trial or an audit the log wasn't.
 pub fn serve_ports<H: Host, W: Write + Drop, E: OctetSink>(
     alloc: Global,
-    edition: Edition,
-    options: &RunOptions,
+    order: Order<'_>,
     host: &mut H,
     output: &mut BufWriter<W>,
     errors: &mut E,
@@ -151,15 +150,16 @@ pub fn serve_ports<H: Host, W: Write + Drop, E: OctetSink>(
         × LeavesService (whole_machine (machine (OpensAtLine (H.LogOpens host.old) (H.LogIsCut host.old) H.Log.held)
         (H.SocketsOpen host.old) (H.RoutesIp host.old) (H.Closes host.new) H.Log.held H.Sockets.calls)
         (state_machine (H.FileReads host.old) (H.LastDenials host.old) (H.StoreOpens host.old)
-        (H.ReloadsOpen host.old) H.StateStore.held H.Reloads.recorded) (H.Waits host.old)) options.now
-        (writer_contents W.contents output.old) (writer_contents W.contents output.new) edition said result
+        (H.ReloadsOpen host.old) H.StateStore.held H.Reloads.recorded) (H.Waits host.old)) order.entry.options.now
+        (writer_contents W.contents output.old) (writer_contents W.contents output.new) order.entry.edition said result
         × (E.NeverFails errors.old → Appends (E.held errors.old) (E.held errors.new) said) }
     ensures lasting { E.NeverFails errors.old → E.NeverFails errors.new }
-    ensures flush { OnOk result (IsFlushedFor (option_map string_bytes options.now.log)
+    ensures flush { OnOk result (IsFlushedFor (option_map string_bytes order.entry.options.now.log)
         (writer_buffer output.old) (writer_buffer output.new)) }
 {
+    let Order { edition, options } = order;
     write_note(unaudited_note(&edition.config, options).as_bytes(), errors);
     let waits = is_waiting(&options.log, host);
     write_note(waiting_note(waits).as_bytes(), errors);
-    serve_kept(alloc, edition, options, host, output, errors)
+    serve_kept(alloc, Order { edition, options }, host, output, errors)
 }

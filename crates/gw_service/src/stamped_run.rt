@@ -11,10 +11,9 @@ ghost use Rattle.gw_service.specs.Kept.{LeavesService, state_machine, whole_mach
 ghost use Rattle.gw_service.specs.Serving.{IsFlushedFor, machine};
 ghost use Rattle.gw_service.specs.StampedRun.{EndsIn, IsEndedIn, LeavesTimed, timed_machine, whole_with_stamps};
 
-use crate::edition::Edition;
 use crate::fault::ServiceFault;
+use crate::order::Order;
 use crate::serving::serve_ports;
-use gw_configuration::RunOptions;
 use gw_log_words::{Calendar, Noted, Stamped};
 use gw_script::OctetSink;
 use gw_system::{Host, StampedHost, into_log};
@@ -67,8 +66,7 @@ fn close_on<H: Host>(host: &mut H, closed: Closed<H::Sockets, H::Log, H::Calenda
 /// Faults: those of [`serve_ports`].
 fn serve_stamped<H: Host, W: Write + Drop, E: OctetSink>(
     alloc: Global,
-    edition: Edition,
-    options: &RunOptions,
+    order: Order<'_>,
     host: &mut H,
     output: &mut BufWriter<W>,
     errors: &mut E,
@@ -78,15 +76,15 @@ fn serve_stamped<H: Host, W: Write + Drop, E: OctetSink>(
         (whole_machine (machine (OpensAtLine (H.LogOpens host.old) (H.LogIsCut host.old) H.Log.held)
         (H.SocketsOpen host.old) (H.RoutesIp host.old) (H.Closes host.new) H.Log.held H.Sockets.calls)
         (state_machine (H.FileReads host.old) (H.LastDenials host.old) (H.StoreOpens host.old)
-        (H.ReloadsOpen host.old) H.StateStore.held H.Reloads.recorded) (H.Waits host.old))) options.now
-        (writer_contents W.contents output.old) (writer_contents W.contents output.new) edition said result
+        (H.ReloadsOpen host.old) H.StateStore.held H.Reloads.recorded) (H.Waits host.old))) order.entry.options.now
+        (writer_contents W.contents output.old) (writer_contents W.contents output.new) order.entry.edition said result
         × (E.NeverFails errors.old → Appends (E.held errors.old) (E.held errors.new) said) }
     ensures lasting { E.NeverFails errors.old → E.NeverFails errors.new }
-    ensures flush { OnOk result (IsFlushedFor (option_map string_bytes options.now.log)
+    ensures flush { OnOk result (IsFlushedFor (option_map string_bytes order.entry.options.now.log)
         (writer_buffer output.old) (writer_buffer output.new)) }
 {
     let mut machine = StampedHost { host, closed: None };
-    let outcome = serve_ports(alloc, edition, options, &mut machine, output, errors);
+    let outcome = serve_ports(alloc, order, &mut machine, output, errors);
     let StampedHost { closed, .. } = machine;
     close_on(host, closed);
     outcome
@@ -101,8 +99,7 @@ fn serve_stamped<H: Host, W: Write + Drop, E: OctetSink>(
 /// Those of [`serve_ports`].
 pub fn serve_run<H: Host, W: Write + Drop, E: OctetSink>(
     alloc: Global,
-    edition: Edition,
-    options: &RunOptions,
+    order: Order<'_>,
     host: &mut H,
     output: &mut BufWriter<W>,
     errors: &mut E,
@@ -112,16 +109,16 @@ pub fn serve_run<H: Host, W: Write + Drop, E: OctetSink>(
         (whole_machine (machine (OpensAtLine (H.LogOpens host.old) (H.LogIsCut host.old) H.Log.held)
         (H.SocketsOpen host.old) (H.RoutesIp host.old) (H.Closes host.new) H.Log.held H.Sockets.calls)
         (state_machine (H.FileReads host.old) (H.LastDenials host.old) (H.StoreOpens host.old)
-        (H.ReloadsOpen host.old) H.StateStore.held H.Reloads.recorded) (H.Waits host.old))) options.now
-        (writer_contents W.contents output.old) (writer_contents W.contents output.new) edition said result
+        (H.ReloadsOpen host.old) H.StateStore.held H.Reloads.recorded) (H.Waits host.old))) order.entry.options.now
+        (writer_contents W.contents output.old) (writer_contents W.contents output.new) order.entry.edition said result
         × (E.NeverFails errors.old → Appends (E.held errors.old) (E.held errors.new) said) }
     ensures lasting { E.NeverFails errors.old → E.NeverFails errors.new }
-    ensures flush { OnOk result (IsFlushedFor (option_map string_bytes options.now.log)
+    ensures flush { OnOk result (IsFlushedFor (option_map string_bytes order.entry.options.now.log)
         (writer_buffer output.old) (writer_buffer output.new)) }
 {
-    if options.stamp {
-        serve_stamped(alloc, edition, options, host, output, errors)
+    if order.options.stamp {
+        serve_stamped(alloc, order, host, output, errors)
     } else {
-        serve_ports(alloc, edition, options, host, output, errors)
+        serve_ports(alloc, order, host, output, errors)
     }
 }

@@ -3,30 +3,21 @@
 ghost use Rattle.std.proofs.Props.{props};
 ghost use Rattle.std.specs.Prelude.{◌≡◌, ◌-◌, ◌/◌, ◌%◌, ◌==◌, ◌&&◌, ◌||◌, ◌<◌, ◌≤◌, IfOk, IfSome, IsOk, IsTrue, OnOk, if◌then◌else◌, [], List, ℕ, true};
 ghost use Rattle.std.specs.Io.KnownBytes.{Appends};
+ghost use Rattle.gw_service.specs.Metering.{lost_by, metered};
 ghost use Rattle.gw_service.specs.Metrics.{measures_of};
 ghost use Rattle.gw_service.specs.Stats.{all_stats, due_stats, end_stats, ends_hour, is_due, minute_text, reporting, stats_text, tries_text, troubles_text, whole, with_rules};
 
 use crate::keeping::StateKeeper;
-use crate::metrics::Measures;
+use crate::metrics::{Measures, lost_of};
+use crate::running::Running;
 use gw_core::{Counts, Gateway};
-use gw_notices::{ReloadCounts, write_lost_metrics, write_put_off, write_reloads, write_unkept};
+use gw_notices::{write_lost_metrics, write_put_off, write_reloads, write_unkept};
 use gw_script::{OctetSink, WriteFailed};
 use gw_turns::{
-    Announcing, ServeState, has_gone_on, report_of, write_announcing, write_culprits,
-    write_healths, write_ports, write_report,
+    ServeState, has_gone_on, report_of, write_announcing, write_culprits, write_healths,
+    write_ports, write_report,
 };
-use std::alloc::Global;
-
-/// What is counted of a run beside what is served.
-#[derive(Clone, Copy)]
-pub(crate) struct RunCounts {
-    /// How often the configuration was read again.
-    pub reloads: ReloadCounts,
-    /// What is to be announced, and what was.
-    pub announcing: Announcing,
-    /// How many texts of metrics were lost, if they are put.
-    pub lost_metrics: Option<u64>,
-}
+use gw_wire::Store;
 
 /// When a report is due: the counts of the gateway at first, and the seconds from one to the next, if reports are asked for;
 /// whether it says how many asks each rule decided, how often the state couldn't be kept, and how often the configuration
@@ -121,43 +112,44 @@ impl Schedule {
     /// Writes how often the state couldn't be kept, if it is, how often the configuration was read again, if it is, how many
     /// texts of metrics were lost, if they are put, what was announced, if anything was, how often an announcement was put off,
     /// if one was, and what else the keeper reports, with the rules if the schedule says so.
-    fn write_tries<K: StateKeeper, E: OctetSink>(
+    fn write_tries<K: StateKeeper, Q, M: Store + Drop, E: OctetSink>(
         &self,
-        gateway: &Gateway,
-        keeper: &K,
-        counts: RunCounts,
+        running: &Running<K, Q, M>,
         errors: &mut E,
     ) -> Result<(), WriteFailed>
         ensures ok { let how = reporting self.now.seconds self.now.rules self.now.start self.now.keeps self.now.reloads self.now.verbose in
             OnOk result (Appends (E.held errors.old) (E.held errors.new)
-            (tries_text K.unkept K.more how keeper.now counts.reloads counts.announcing counts.lost_metrics gateway.now)) }
+            (tries_text K.unkept K.more how running.now.keeper running.now.counts running.now.announcing
+            (lost_by (metered running.now.metrics)) running.now.gateway)) }
         ensures sure { E.NeverFails errors.old → IsOk result }
         ensures lasts { E.NeverFails errors.old → E.NeverFails errors.new }
     {
-        write_unkept(self.keeps, keeper.unkept(), errors)?;
-        write_reloads(self.reloads, counts.reloads, errors)?;
-        write_lost_metrics(counts.lost_metrics, errors)?;
-        write_announcing(counts.announcing, errors)?;
-        write_put_off(counts.announcing.put_off, errors)?;
-        keeper.write_more(self.rules, gateway, errors)
+        write_unkept(self.keeps, running.keeper.unkept(), errors)?;
+        write_reloads(self.reloads, running.counts, errors)?;
+        write_lost_metrics(lost_of(&running.metrics), errors)?;
+        write_announcing(running.announcing, errors)?;
+        write_put_off(running.announcing.put_off, errors)?;
+        running
+            .keeper
+            .write_more(self.rules, &running.gateway, errors)
     }
 
     /// Writes what was done since a gateway began.
-    fn write_stats<K: StateKeeper, E: OctetSink>(
+    fn write_stats<K: StateKeeper, Q, M: Store + Drop, E: OctetSink>(
         &self,
-        gateway: &Gateway,
-        state: &ServeState,
-        keeper: &K,
-        counts: RunCounts,
+        running: &Running<K, Q, M>,
         errors: &mut E,
     ) -> Result<(), WriteFailed>
         ensures ok { let how = reporting self.now.seconds self.now.rules self.now.start self.now.keeps self.now.reloads self.now.verbose in
             OnOk result (Appends (E.held errors.old) (E.held errors.new)
-            (stats_text how gateway.now state.now.served state.now.tally
-            (tries_text K.unkept K.more how keeper.now counts.reloads counts.announcing counts.lost_metrics gateway.now))) }
+            (stats_text how running.now.gateway running.now.state.served running.now.state.tally
+            (tries_text K.unkept K.more how running.now.keeper running.now.counts running.now.announcing
+            (lost_by (metered running.now.metrics)) running.now.gateway))) }
         ensures sure { E.NeverFails errors.old → IsOk result }
         ensures lasts { E.NeverFails errors.old → E.NeverFails errors.new }
     {
+        let gateway = &running.gateway;
+        let state = &running.state;
         if !has_gone_on(self.start, gateway, &state.served) {
             return Ok(());
         }
@@ -165,47 +157,41 @@ impl Schedule {
         write_report(&report, errors)?;
         write_ports(&report, errors)?;
         write_troubles(self.seconds, gateway, state, errors)?;
-        self.write_tries(gateway, keeper, counts, errors)
+        self.write_tries(running, errors)
     }
 
     /// A report with how many asks each rule decided, whether one is due or not. `WriteFailed` only if memory was refused.
-    pub(crate) fn status<K: StateKeeper>(
+    pub(crate) fn status<K: StateKeeper, Q, M: Store + Drop>(
         &self,
-        alloc: Global,
-        gateway: &Gateway,
-        state: &ServeState,
-        keeper: &K,
-        counts: RunCounts,
+        running: &Running<K, Q, M>,
     ) -> Result<Vec<u8>, WriteFailed>
         ensures { let how = reporting self.now.seconds self.now.rules self.now.start self.now.keeps self.now.reloads self.now.verbose in
-            IfOk result (λ text. text.items ≡ all_stats K.unkept K.more how keeper.now counts.reloads counts.announcing
-            counts.lost_metrics gateway.now state.now.served state.now.tally) }
+            IfOk result (λ text. text.items ≡ all_stats K.unkept K.more how running.now.keeper running.now.counts
+            running.now.announcing (lost_by (metered running.now.metrics)) running.now.gateway running.now.state.served running.now.state.tally) }
     {
-        let mut text = Vec::new(alloc);
-        self.whole()
-            .write_stats(gateway, state, keeper, counts, &mut text)?;
+        let mut text = Vec::new(running.state.alloc);
+        self.whole().write_stats(running, &mut text)?;
         Ok(text)
     }
 
     /// What is measured at a tick. It is always something.
-    pub(crate) fn measure<K: StateKeeper>(
+    pub(crate) fn measure<K: StateKeeper, Q, M: Store + Drop>(
         &self,
-        gateway: &Gateway,
-        state: &ServeState,
-        keeper: &K,
-        counts: RunCounts,
+        running: &Running<K, Q, M>,
     ) -> Option<Measures>
-        ensures { result ≡ measures_of self.now.start gateway.now state.now.served state.now.tally counts.reloads
-            counts.announcing (K.losses keeper.now) (K.tries keeper.now) }
+        ensures { result ≡ measures_of self.now.start running.now.gateway running.now.state.served running.now.state.tally
+            running.now.counts running.now.announcing (K.losses running.now.keeper) (K.tries running.now.keeper) }
     {
+        let gateway = &running.gateway;
+        let state = &running.state;
         if has_gone_on(self.start, gateway, &state.served) {
             Some(Measures {
                 report: report_of(self.start, gateway, &state.served, state.tally),
-                reloads: counts.reloads,
-                age: gateway.counts().ticks.saturating_sub(counts.reloads.since),
-                announcing: counts.announcing,
-                losses: keeper.losses(),
-                tries: keeper.tries(),
+                reloads: running.counts,
+                age: gateway.counts().ticks.saturating_sub(running.counts.since),
+                announcing: running.announcing,
+                losses: running.keeper.losses(),
+                tries: running.keeper.tries(),
             })
         } else {
             None
@@ -226,48 +212,45 @@ impl Schedule {
 
     /// Writes a report at a tick, if one is due. It says how many asks each rule decided if all do, or if an hour ended since the
     /// one before. If reports aren't asked for, a verbose run says what is due each minute.
-    pub(crate) fn report_due<K: StateKeeper, E: OctetSink>(
+    pub(crate) fn report_due<K: StateKeeper, Q, M: Store + Drop, E: OctetSink>(
         &self,
-        gateway: &Gateway,
-        state: &ServeState,
-        keeper: &K,
-        counts: RunCounts,
+        running: &Running<K, Q, M>,
         errors: &mut E,
     )
         ensures said { let how = reporting self.now.seconds self.now.rules self.now.start self.now.keeps self.now.reloads self.now.verbose in
             E.NeverFails errors.old → Appends (E.held errors.old) (E.held errors.new)
-            (due_stats K.unkept K.more how keeper.now counts.reloads counts.announcing counts.lost_metrics gateway.now state.now.served state.now.tally) }
+            (due_stats K.unkept K.more how running.now.keeper running.now.counts running.now.announcing
+            (lost_by (metered running.now.metrics)) running.now.gateway running.now.state.served running.now.state.tally) }
         ensures lasts { E.NeverFails errors.old → E.NeverFails errors.new }
     {
+        let gateway = &running.gateway;
         match self.seconds {
             Some(seconds) => {
                 if is_due(self.start, gateway, seconds) {
                     let rules = self.rules || ends_hour(self.start, gateway, seconds);
                     let schedule = self.with_rules(rules);
-                    let _ = schedule.write_stats(gateway, state, keeper, counts, errors);
+                    let _ = schedule.write_stats(running, errors);
                 }
             }
-            None => self.report_minute(gateway, state, errors),
+            None => self.report_minute(gateway, &running.state, errors),
         }
     }
 
     /// Writes a report at the end, if reports are asked for. It says how many asks each rule decided.
-    pub(crate) fn report_last<K: StateKeeper, E: OctetSink>(
+    pub(crate) fn report_last<K: StateKeeper, Q, M: Store + Drop, E: OctetSink>(
         &self,
-        gateway: &Gateway,
-        state: &ServeState,
-        keeper: &K,
-        counts: RunCounts,
+        running: &Running<K, Q, M>,
         errors: &mut E,
     )
         ensures said { let how = reporting self.now.seconds self.now.rules self.now.start self.now.keeps self.now.reloads self.now.verbose in
             E.NeverFails errors.old → Appends (E.held errors.old) (E.held errors.new)
-            (end_stats K.unkept K.more how keeper.now counts.reloads counts.announcing counts.lost_metrics gateway.now state.now.served state.now.tally) }
+            (end_stats K.unkept K.more how running.now.keeper running.now.counts running.now.announcing
+            (lost_by (metered running.now.metrics)) running.now.gateway running.now.state.served running.now.state.tally) }
         ensures lasts { E.NeverFails errors.old → E.NeverFails errors.new }
     {
         if self.seconds.is_some() {
             let schedule = self.whole();
-            let _ = schedule.write_stats(gateway, state, keeper, counts, errors);
+            let _ = schedule.write_stats(running, errors);
         }
     }
 }

@@ -2,7 +2,7 @@
 
 ghost use Rattle.std.specs.Prelude.{◌≡◌, ◌||◌, Ok, is_some, option_map, string_bytes, IfErr, IfOk};
 ghost use Rattle.gw_system.specs.Host.{OpensAtLine};
-ghost use Rattle.gw_service.specs.Watch.{AreCountsOf, AreCountsUnder, IsAuditUnder, IsTrialUnder, IsUnwatched, IsWatcherUnder, fault_of_watching, is_watched, watch_names};
+ghost use Rattle.gw_service.specs.Watch.{AreCountsOf, AreCountsUnder, IsAuditUnder, IsTrialUnder, IsUnwatched, WatchesUnder, fault_of_watching, watch_names};
 
 use crate::fault::ServiceFault;
 use gw_configuration::{Config, RunOptions};
@@ -17,13 +17,6 @@ fn is_counted(options: &RunOptions) -> bool
     ensures { result ≡ (is_some options.now.stats || is_some options.now.metrics) }
 {
     options.stats.is_some() || options.metrics.is_some()
-}
-
-/// Whether the options ask for something that watches: a trial, an audit, or counts of the rules.
-fn is_watched(options: &RunOptions) -> bool
-    ensures { result ≡ is_watched (watch_names options.now) }
-{
-    options.trial.is_some() || options.audit.is_some() || is_counted(options)
 }
 
 /// The policy that is on trial, if one is named, with its log.
@@ -93,21 +86,18 @@ fn counts_under(
     counts_if(alloc, config, is_counted(options))
 }
 
-/// What watches a gateway of this configuration, if the options ask for something. Faults: `Trial`, `Audit` and `Memory`.
+/// What watches a gateway of this configuration, as the options ask: maybe nothing. Faults: `Trial`, `Audit` and `Memory`.
 pub(crate) fn watcher_under<H: Host>(
     alloc: Global,
     config: &Config,
     options: &RunOptions,
     host: &H,
-) -> Result<Option<Watcher<H::Log, H::Log>>, ServiceFault>
+) -> Result<Watcher<H::Log, H::Log>, ServiceFault>
     ensures watcher { let LogOpens = OpensAtLine (H.LogOpens host.now) (H.LogIsCut host.now) H.Log.held in
-        IfOk result (IsWatcherUnder (H.FileReads host.now) (H.LastDenials host.now) LogOpens config.now (watch_names options.now)) }
+        IfOk result (WatchesUnder (H.FileReads host.now) (H.LastDenials host.now) LogOpens config.now (watch_names options.now)) }
     ensures fault { let LogOpens = OpensAtLine (H.LogOpens host.now) (H.LogIsCut host.now) H.Log.held in
         IfErr result (IsUnwatched (H.FileReads host.now) (H.LastDenials host.now) LogOpens config.now (watch_names options.now)) }
 {
-    if !is_watched(options) {
-        return Ok(None);
-    }
     let Ok(counts) = counts_under(alloc, config, options) else {
         return Err(ServiceFault::Memory);
     };
@@ -116,7 +106,7 @@ pub(crate) fn watcher_under<H: Host>(
         Err(fault) => return Err(fault),
     };
     match audit_under(alloc, config, options, host) {
-        Ok(audit) => Ok(Some(Watcher::new(alloc, config.format(), trial, audit, counts))),
+        Ok(audit) => Ok(Watcher::new(alloc, config.format(), trial, audit, counts)),
         Err(fault) => Err(fault),
     }
 }

@@ -1,14 +1,14 @@
-//! A gateway that is watched, and whose state may then be kept.
+//! A gateway that is watched, if something is to be watched, and whose state may then be kept.
 
 ghost use Rattle.std.specs.Prelude.{◌≡◌, if◌then◌else◌, [], IsOk, OnOk};
 ghost use Rattle.std.specs.Io.KnownBytes.{Appends};
 ghost use Rattle.gw_notices.specs.Watch.{counts_text};
-ghost use Rattle.gw_service.specs.Watch.{BeginAnew, IsKeptAtTickBeside, IsKeptForBeside, IsKeptLastBeside, counted_of, has_lost, log_count, losses_of, lost_of, more_of, troubles_of};
+ghost use Rattle.gw_service.specs.Watch.{BeginAnew, IsKeptAtTickBeside, IsKeptForBeside, IsKeptLastBeside, counted_of, has_lost, has_watched, log_count, losses_of, lost_of, more_of, troubles_of, watcher_text};
 ghost use Rattle.gw_service.specs.Keeping.{tries_in, unkept_in};
 
 use crate::keeping::{Kept, StateKeeper};
 use crate::successor::Successor;
-use gw_core::{Both, Gateway};
+use gw_core::{Both, Gateway, Guard};
 use gw_decisions::tally::Tally;
 use gw_notices::metrics::StateTries;
 use gw_notices::{LogCount, Losses, Troubles, WatchCounts, write_counts, write_watched};
@@ -81,6 +81,28 @@ fn write_counts_if<E: OctetSink>(
     }
 }
 
+/// Whether something is watched, or a policy was on trial until it ended.
+fn has_watched<T: OctetSink + Drop, A: OctetSink + Drop>(watcher: &Watcher<T, A>) -> bool
+    ensures { result ≡ has_watched watcher.now }
+{
+    watcher.watches() || watcher.has_ended()
+}
+
+/// Writes what a watcher recorded, with how many asks each rule decided if that is asked for.
+fn write_watcher<T: OctetSink + Drop, A: OctetSink + Drop, E: OctetSink>(
+    rules: bool,
+    gateway: &Gateway,
+    watcher: &Watcher<T, A>,
+    errors: &mut E,
+) -> Result<(), WriteFailed>
+    ensures ok { OnOk result (Appends (E.held errors.old) (E.held errors.new) (watcher_text watcher.now rules gateway.now)) }
+    ensures sure { E.NeverFails errors.old → IsOk result }
+    ensures lasts { E.NeverFails errors.old → E.NeverFails errors.new }
+{
+    write_watched(counted_of(watcher), errors)?;
+    write_counts_if(rules, gateway.rules(), watcher.counts(), errors)
+}
+
 /// The counts from which a watcher goes on that has these so far: new ones, if it counts.
 fn begun_anew(so_far: &Option<Tally>, counts: Tally) -> Option<Tally>
     ensures { BeginAnew counts so_far.now result }
@@ -148,7 +170,7 @@ impl<S: Store + Drop, T: OctetSink + Drop, A: OctetSink + Drop> StateKeeper
         self.second.tries()
     }
 
-    fn decisions<'a>(&'a self, _nothing: &'a Option<Tally>) -> &'a Option<Tally> {
+    fn decisions(&self) -> &Option<Tally> {
         self.first.counts()
     }
 
@@ -166,7 +188,10 @@ impl<S: Store + Drop, T: OctetSink + Drop, A: OctetSink + Drop> StateKeeper
         gateway: &Gateway,
         errors: &mut E,
     ) -> Result<(), WriteFailed> {
-        write_watched(counted_of(&self.first), errors)?;
-        write_counts_if(rules, gateway.rules(), self.first.counts(), errors)
+        if has_watched(&self.first) {
+            write_watcher(rules, gateway, &self.first, errors)
+        } else {
+            Ok(())
+        }
     }
 }

@@ -26,7 +26,7 @@ use gw_ending::reading::{
 };
 use gw_notices::write_note;
 use gw_script::{OctetSink, OctetSource};
-use gw_service::{Edition, ServiceFault, serve_run};
+use gw_service::{Edition, Order, ServiceFault, serve_run};
 use gw_system::Host;
 use std::alloc::Global;
 use std::io::{BufWriter, Write};
@@ -132,7 +132,10 @@ fn serve<H: Host, W: Write + Drop, E: OctetSink>(
         (writer_buffer output.old) (writer_buffer output.new)) }
 {
     match edition_of(alloc, text) {
-        Ok(edition) => served(serve_run(alloc, edition, options, host, output, errors)),
+        Ok(edition) => {
+            let order = Order { edition, options };
+            served(serve_run(alloc, order, host, output, errors))
+        }
         Err(fault) => Err(fault),
     }
 }

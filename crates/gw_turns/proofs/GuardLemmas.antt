@@ -8,7 +8,8 @@ use Rattle.gw_core.specs.declared.gateway.Taken.{Taken}
 use Rattle.gw_core.specs.State.{State}
 use Rattle.gw_turns.specs.Serve.{EndsBy, LeadTo, Scene, Turn, count_fault, count_turn, counts_after, empty_turn, events_of, failed_turn, lines_of, lost_event, scene, taken_event, ticks_with, turn_events}
 use Rattle.gw_turns.specs.ServeTurn.{AreTried, GuardedEnd, TurnEnd}
-use Rattle.gw_core.specs.declared.asked.Asked.{Asked}
+use Rattle.gw_core.specs.Seen.{Seen}
+use Rattle.gw_rules.specs.declared.verdict.Verdict.{Verdict}
 use Rattle.gw_turns.specs.Stretch.{AreGuarded, GuardsTurn, IsLoggedLast, IsPassedAt, count_taken, moment}
 use Rattle.gw_core.specs.Guard.{IsSeen, IsTaken}
 use Rattle.gw_turns.specs.Tally.{tally_from}
@@ -109,7 +110,6 @@ unguarded_fault Passes g h a m s t was is unwritten fault p = (p.0, unwritten, p
 -- ---- what is handed to a guard
 
 -- what was seen of the asks, as a guard is handed it
-pub seen_by : (is watching : Bool) (w : State) (event : Event) (kept handed : Option (List Asked)) → is ≡ watching → handed ≡ kept
-    → IsSeen is w event kept → IsSeen watching w event handed
-seen_by is watching w event kept handed same given seen =
-    subst (λ (b : Bool). IsSeen b w event handed) same (subst (λ (o : Option (List Asked)). IsSeen is w event o) (sym given) seen)
+pub seen_by : (watching : Bool) (keeps : Verdict → Bool) (w : State) (event : Event) (kept handed : Option Seen) → handed ≡ kept
+    → IsSeen watching keeps w event kept → IsSeen watching keeps w event handed
+seen_by watching keeps w event kept handed given seen = subst (λ (o : Option Seen). IsSeen watching keeps w event o) (sym given) seen

@@ -11,6 +11,7 @@ use crate::ahead::{is_ahead, number_for};
 use crate::alike::{Part, is_same};
 use crate::pace::{Pace, one_more};
 use gw_core::{Gateway, Guard, SeenAsks, Taken};
+use gw_rules::Ask;
 use gw_state::{Origin, Saved};
 use gw_state_text::put_state;
 use gw_wire::{Store, StoreFault};
@@ -299,7 +300,13 @@ impl<S: Store + Drop> Guard for Keeper<S> {
 
     ghost watching = { λ _. false };
 
+    ghost keeps = { λ _ _. false };
+
     fn watches(&self) -> bool {
+        false
+    }
+
+    fn keeps(&self, _ask: &Ask, _by: Option<u16>, _is_allowed: bool) -> bool {
         false
     }
 

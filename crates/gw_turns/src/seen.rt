@@ -8,7 +8,7 @@ ghost use Rattle.gw_core.specs.Effects.{NeedsNoMemory, passes_end};
 ghost use Rattle.gw_core.specs.Guard.{IsSeen, IsTaken};
 
 use crate::pace::one_more;
-use gw_core::{AsksSeen, DenialsAlone, Gateway, SeenAsks, StepFault, Taken, take_event};
+use gw_core::{DenialsAlone, Gateway, Guard, SeenAsks, SeenBy, StepFault, Taken, take_event};
 use gw_script::Event;
 use std::alloc::Global;
 use std::marker::Model;
@@ -51,20 +51,21 @@ impl Refusals {
     }
 }
 
-/// Has the gateway take an event as [`take_event`] does; and if it is watched, puts what it asks beside. If there is no
-/// memory for what it asks, the event is taken all the same. If there is none for the event, that is counted.
+/// Has the gateway take an event as [`take_event`] does; and if the guard watches, puts beside what that sees of what is asked. If
+/// there is no memory for that, the event is taken all the same. If there is none for the event, that is counted.
 #[inline(always)]
-pub(crate) fn take_seen(
+pub(crate) fn take_seen<G: Guard>(
     alloc: Global,
     gateway: &mut Gateway,
     event: &Event<'_>,
-    is_watched: bool,
+    guard: &G,
     asked: &mut Option<SeenAsks>,
     refusals: &mut Refusals,
 ) -> Result<Taken, StepFault>
     requires none { asked.old ≡ None }
     ensures taken { IfOk result (IsTaken gateway.old (event_view event.now) gateway.new) }
-    ensures seen { IsOk result → IsSeen is_watched gateway.old (event_view event.now) asked.new }
+    ensures seen { IsOk result →
+        IsSeen (G.watching guard.now) (G.keeps guard.now) gateway.old (event_view event.now) asked.new }
     ensures count_end { IsErrOf result StepFault.CountEnd →
         passes_end gateway.old (event_view event.now) ≡ true }
     ensures memory { IsErrOf result StepFault.Memory →
@@ -72,8 +73,8 @@ pub(crate) fn take_seen(
     ensures err { OnErr result (gateway.new ≡ gateway.old) }
     ensures refused { refusals.new ≡ refusals_after refusals.old result }
 {
-    if is_watched {
-        match take_event::<AsksSeen>(alloc, gateway, event) {
+    if guard.watches() {
+        match take_event(alloc, gateway, event, &SeenBy { guard }) {
             Ok(watched) => {
                 *asked = Some(watched.asked);
                 return Ok(watched.taken);
@@ -82,7 +83,7 @@ pub(crate) fn take_seen(
             Err(StepFault::CountEnd) => return Err(StepFault::CountEnd),
         }
     }
-    match take_event::<DenialsAlone>(alloc, gateway, event) {
+    match take_event(alloc, gateway, event, &DenialsAlone) {
         Ok(reported) => Ok(reported.taken),
         Err(StepFault::Memory) => {
             refusals.add();

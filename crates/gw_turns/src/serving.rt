@@ -145,9 +145,9 @@ pub fn serve<W: Wire, L: OctetSink>(
     // A log that never fails doesn't end it.
     ensures sure_log { L.NeverFails log.old → IfErr result (λ stop. ¬ (stop.fault ≡ ServeFault.Log)) }
 {
-    let mut state = ServeState::new(alloc);
+    let mut state = ServeState::new(alloc, turns);
     for _ in 0..turns {
-        match state.take_turn(alloc, gateway, wire, log) {
+        match state.take_turn(gateway, wire, log) {
             Ok(()) => {}
             Err(fault) => {
                 return Err(ServeStop {
@@ -163,6 +163,10 @@ pub fn serve<W: Wire, L: OctetSink>(
 /// What is kept from turn to turn.
 #[derive(Drop)]
 pub struct ServeState {
+    /// Where memory comes from.
+    pub alloc: Global,
+    /// How many turns are left to be served.
+    pub left: u64,
     datagram: [u8; RECEIVE_ROOM],
     /// What the log lacks of the lines of the last event, if it failed at them.
     pub unwritten: Vec<u8>,
@@ -175,14 +179,17 @@ pub struct ServeState {
 }
 
 impl ServeState {
-    /// Before the first turn.
-    pub fn new(alloc: Global) -> Self
+    /// Before the first of so many turns.
+    pub fn new(alloc: Global, turns: u64) -> Self
+        ensures left { result.left ≡ turns }
         ensures served { result.served ≡ zero_counts }
         ensures tally { result.tally ≡ no_tally }
-        ensures ready { (failures turns : ℕ) → failures < 2 ^ 127 → turns < 2 ^ 63 →
-            CanCount result.served result.tally failures turns }
+        ensures ready { (failures : ℕ) → failures < 2 ^ 127 → turns < 2 ^ 63 →
+            CanCount result.served result.tally failures result.left }
     {
         ServeState {
+            alloc,
+            left: turns,
             datagram: [0; RECEIVE_ROOM],
             unwritten: Vec::new(alloc),
             served: Served::none(),
@@ -194,16 +201,17 @@ impl ServeState {
     /// One turn: receives, has the gateway take what came, logs its denials and then sends.
     pub(crate) fn take_turn<W: Wire, L: OctetSink>(
         &mut self,
-        alloc: Global,
         gateway: &mut Gateway,
         wire: &mut W,
         log: &mut L,
     ) -> Result<(), ServeFault>
+        requires some { 0 < self.old.left }
         requires room { HasRoom self.old.served (W.failure_count wire.old) }
         requires below { IsBelow self.old.served.taken self.old.tally }
         ensures end { let before = scene gateway.old (L.held log.old) (W.calls wire.old) in
             let after = scene gateway.new (L.held log.new) (W.calls wire.new) in
             TurnEnd before self.old.served self.old.tally after self.new.served self.new.tally result }
+        ensures left { self.new.left + 1 ≡ self.old.left }
         ensures below { IsBelow self.new.served.taken self.new.tally }
         ensures failures { let was = self.old.served in
             let is = self.new.served in
@@ -215,7 +223,7 @@ impl ServeState {
         ensures sure_log { L.NeverFails log.old → ¬ (IsErrOf result ServeFault.Log) }
         ensures lasting_log { L.NeverFails log.old → L.NeverFails log.new }
     {
-        match self.take_guarded_turn(alloc, gateway, wire, log, &mut Unguarded) {
+        match self.take_guarded_turn(gateway, wire, log, &mut Unguarded) {
             Ok(_) => Ok(()),
             Err(fault) => Err(fault),
         }
@@ -227,12 +235,12 @@ impl ServeState {
     #[inline(always)]
     pub(crate) fn take_guarded_turn<W: Wire, L: OctetSink, G: Guard>(
         &mut self,
-        alloc: Global,
         gateway: &mut Gateway,
         wire: &mut W,
         log: &mut L,
         guard: &mut G,
     ) -> Result<bool, ServeFault>
+        requires some { 0 < self.old.left }
         requires room { HasRoom self.old.served (W.failure_count wire.old) }
         requires below { IsBelow self.old.served.taken self.old.tally }
         ensures end { let before = moment
@@ -241,6 +249,7 @@ impl ServeState {
             (scene gateway.new (L.held log.new) (W.calls wire.new)) guard.new self.new.served self.new.tally in
             GuardedEnd G.Passes before result self.new.unwritten.items after }
         ensures turns { self.new.served.turns ≡ self.old.served.turns + 1 }
+        ensures left { self.new.left + 1 ≡ self.old.left }
         ensures each { let is = self.new.served in
             is.taken + is.memory_drops + is.recv_failures ≤ is.turns }
         ensures below { IsBelow self.new.served.taken self.new.tally }
@@ -254,6 +263,8 @@ impl ServeState {
         ensures sure_log { L.NeverFails log.old → ¬ (IsErrOf result ServeFault.Log) }
         ensures lasting_log { L.NeverFails log.old → L.NeverFails log.new }
     {
+        let alloc = self.alloc;
+        self.left -= 1;
         self.served.turns += 1;
         let event = match receive(wire, &mut self.datagram) {
             Ok(Some(event)) => event,
@@ -269,7 +280,7 @@ impl ServeState {
             alloc,
             gateway,
             &event,
-            guard.watches(),
+            guard,
             &mut asked,
             &mut self.refusals,
         ) {

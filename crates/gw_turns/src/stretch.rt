@@ -1,6 +1,6 @@
 //! Serving by stretches, each until a tick was taken.
 
-ghost use Rattle.std.specs.Prelude.{◌≡◌, ℕ, ◌+◌, ◌≤◌, IsErrOf};
+ghost use Rattle.std.specs.Prelude.{◌≡◌, ◌+◌, ◌≤◌, IsErrOf};
 ghost use Rattle.gw_turns.specs.Serve.{AreRefused, scene};
 ghost use Rattle.gw_turns.specs.Stretch.{CanCount, EndsStretch, moment};
 
@@ -8,7 +8,6 @@ use crate::serving::{ServeFault, ServeState};
 use gw_core::{Gateway, Guard};
 use gw_script::OctetSink;
 use gw_wire::Wire;
-use std::alloc::Global;
 
 /// Why a stretch of serving ended.
 #[derive(Clone, Copy)]
@@ -23,7 +22,7 @@ pub enum Pause {
 }
 
 impl ServeState {
-    /// Serves a wire as [`serve`](crate::serve) does, until a tick was taken or so many turns are done; and
+    /// Serves a wire as [`serve`](crate::serve) does, until a tick was taken or no turns are left; and
     /// asks a guard about each event that was taken and logged, before anything of it is sent. If the guard
     /// doesn't let its datagrams go, the stretch ends. The counts go on from what they were:
     /// `served.turns` says how many turns were done.
@@ -34,25 +33,22 @@ impl ServeState {
     /// the guard passed the event; else the guard wasn't asked about it.
     pub fn serve_to_tick<W: Wire, L: OctetSink, G: Guard>(
         &mut self,
-        alloc: Global,
         gateway: &mut Gateway,
         wire: &mut W,
         log: &mut L,
         guard: &mut G,
-        turns: u64,
     ) -> Result<Pause, ServeFault>
-        requires { CanCount self.old.served self.old.tally (W.failure_count wire.old) turns }
+        requires { CanCount self.old.served self.old.tally (W.failure_count wire.old) self.old.left }
         // What there is then, as some list of turns leads to.
         ensures end { let before = moment
             (scene gateway.old (L.held log.old) (W.calls wire.old)) guard.old self.old.served self.old.tally in
             let after = moment
             (scene gateway.new (L.held log.new) (W.calls wire.new)) guard.new self.new.served self.new.tally in
-            EndsStretch G.Passes turns before result self.new.unwritten.items after }
-        // As many turns as weren't done can still be counted.
-        ensures rest { (rest : ℕ) → self.new.served.turns + rest ≤ self.old.served.turns + turns →
-            CanCount self.new.served self.new.tally (W.failure_count wire.new) rest }
+            EndsStretch G.Passes self.old.left before result self.new.unwritten.items after }
+        // The turns that weren't done are left, and can still be counted.
+        ensures left { self.new.served.turns + self.new.left ≡ self.old.served.turns + self.old.left }
+        ensures rest { CanCount self.new.served self.new.tally (W.failure_count wire.new) self.new.left }
         ensures least { self.old.served.turns ≤ self.new.served.turns }
-        ensures most { self.new.served.turns ≤ self.old.served.turns + turns }
         // The wire's own count of failures rose by those that are counted.
         ensures failures { let was = self.old.served in
             let is = self.new.served in
@@ -65,9 +61,9 @@ impl ServeState {
         ensures sure_log { L.NeverFails log.old → ¬ (IsErrOf result ServeFault.Log) }
         ensures lasting_log { L.NeverFails log.old → L.NeverFails log.new }
     {
-        for _ in 0..turns {
+        for _ in 0..self.left {
             let ticks = gateway.counts().ticks;
-            let is_passed = match self.take_guarded_turn(alloc, gateway, wire, log, guard) {
+            let is_passed = match self.take_guarded_turn(gateway, wire, log, guard) {
                 Ok(is_passed) => is_passed,
                 Err(fault) => return Err(fault),
             };

@@ -24,11 +24,11 @@ use Rattle.gw_service.specs.Chain.{ended, inquired, passed_over, refused, served
 use Rattle.gw_service.specs.declared.running.End.{End}
 use Rattle.gw_service.specs.declared.running.End.TheVariants as end
 use Rattle.gw_service.specs.Keeping.{IsKeptAtTick, IsKeptFor, IsKeptLast, IsPassed, failing_in}
-use Rattle.gw_service.specs.Kept.{Given, KeepsFirst, manner_of, reporting_of, watched_manner_of}
+use Rattle.gw_service.specs.Kept.{Given, KeepsFirst, reporting_of, watched_manner_of}
 use Rattle.gw_service.specs.Stats.{Reporting}
 use Rattle.gw_service.specs.declared.keeping.Kept.{Kept}
 use Rattle.gw_service.specs.declared.keeping.Kept.TheVariants.{Nowhere, In}
-use Rattle.gw_state_laws.specs.keeping.Laws.{FirstIsCurrent, IsCurrent, IsCurrentIn, IsRecentIn, KeepsAt, KeepsAtEnd, KeepsCurrent, KeptIsAhead, KeptIsUpToDate, KeptIsYoung, RunsEndCurrent, RunsKeepCurrent, RunsKeepLast, RunsKeepRecent, WatchedRunsEndCurrent, WatchedRunsKeepCurrent, WatchedRunsKeepLast, WatchedRunsKeepRecent, second_part, itself}
+use Rattle.gw_state_laws.specs.keeping.Laws.{FirstIsCurrent, IsCurrent, IsCurrentIn, IsRecentIn, KeepsAt, KeepsAtEnd, KeepsCurrent, KeptIsAhead, KeptIsUpToDate, KeptIsYoung, RunsEndCurrent, RunsKeepCurrent, RunsKeepLast, RunsKeepRecent, second_part}
 use Rattle.gw_state_laws.proofs.keeping_lemmas.Currency.{current_is_up_to_date, event_current, passed_has, ticks_keep_current, tried_is_current, tried_last_is_current}
 
 -- ---- a keeper of the configuration in force
@@ -115,13 +115,6 @@ record IsPart {S K : Type 0} (held : S → Option (List ℕ)) (part : K → Kept
       → (goes : Bool) × IsPassed held (part k) w event (part l) goes
   ticks : (k l : K) (w : State) → manner.Ticks k w l → IsKeptAtTick held (part k) w (part l)
   adopts : (k l : K) (c : Configuration) (w : State) → manner.Adopts k c w l → IsKeptFor held (part k) c w (part l)
-
-whole : {S : Type 0} (held : S → Option (List ℕ)) (how : Reporting) → IsPart held itself (manner_of held how)
-whole held how = record {
-  passes = λ k l w event passes p. (passes, p);
-  ticks = λ k l w p. p;
-  adopts = λ k l c w p. p;
-}
 
 second : {S L : Type 0} (held : S → Option (List ℕ)) (log_held : L → Option (List ℕ)) (how : Reporting)
     → IsPart held second_part (watched_manner_of held log_held how)
@@ -223,12 +216,9 @@ links_keep held part manner is s t [] p now = subst (λ (u : Stage _). KeepsAt h
 links_keep held part manner is s t (link ∷ links) p now =
     links_keep held part manner is p.0 t links p.2 (link_keeps held part manner is s p.0 link p.1 now)
 
-pub runs_keep_current : {S : Type 0} (held : S → Option (List ℕ)) → RunsKeepCurrent held
-runs_keep_current held how s t links p now = links_keep held itself (manner_of held how) (whole held how) s t links p now
-
-pub watched_runs_keep_current : {S L : Type 0} (held : S → Option (List ℕ)) (log_held : L → Option (List ℕ))
-    → WatchedRunsKeepCurrent held log_held
-watched_runs_keep_current held log_held how s t links p now =
+pub runs_keep_current : {S L : Type 0} (held : S → Option (List ℕ)) (log_held : L → Option (List ℕ))
+    → RunsKeepCurrent held log_held
+runs_keep_current held log_held how s t links p now =
     links_keep held second_part (watched_manner_of held log_held how) (second held log_held how) s t links p now
 
 -- ---- at the end
@@ -282,14 +272,6 @@ begun_keeps held part s t begins now = subst (λ (u : Stage _). KeepsAt held par
 pub runs_end_current : {S Q L : Type 0} (given : Given S Q L) → RunsEndCurrent given
 runs_end_current given store same c how before after text outcome run =
     let reports = reporting_of given how run.gateway in
-    end_keeps given.held itself (manner_of given.held reports) (whole given.held reports) how.turns _ run.runs.last run.answer
-    run.runs.links run.runs.runs
-    (begun_keeps given.held itself _ run.runs.begun run.runs.begins
-    (given_keeps given.held given.store store c run.gateway run.keeper same run.keeps))
-
-pub watched_runs_end_current : {S Q L : Type 0} (given : Given S Q L) → WatchedRunsEndCurrent given
-watched_runs_end_current given store same watcher c how before after text outcome run =
-    let reports = reporting_of given how run.gateway in
     end_keeps given.held second_part (watched_manner_of given.held given.log_held reports) (second given.held given.log_held reports)
     how.turns _ run.runs.last run.answer run.runs.links run.runs.runs
     (begun_keeps given.held second_part _ run.runs.begun run.runs.begins
@@ -313,15 +295,8 @@ kept_at_end held part manner count first last (Err fault) links runs now = (now.
 pub runs_keep_last : {S Q L : Type 0} (given : Given S Q L) → RunsKeepLast given
 runs_keep_last given store same c how before after text outcome run =
     let reports = reporting_of given how run.gateway in
-    let there = kept_at_end given.held itself (manner_of given.held reports) how.turns _ run.runs.last run.answer run.runs.links run.runs.runs
-    (runs_end_current given store same c how before after text outcome run) in
-    keeps_in given.held run.runs.last.now.guard run.left.keeper there.0 run.runs.last.now.scene.gateway there.1 run.runs.ends.keeps
-
-pub watched_runs_keep_last : {S Q L : Type 0} (given : Given S Q L) → WatchedRunsKeepLast given
-watched_runs_keep_last given store same watcher c how before after text outcome run =
-    let reports = reporting_of given how run.gateway in
     let there = kept_at_end given.held second_part (watched_manner_of given.held given.log_held reports) how.turns _ run.runs.last run.answer
-    run.runs.links run.runs.runs (watched_runs_end_current given store same watcher c how before after text outcome run) in
+    run.runs.links run.runs.runs (runs_end_current given store same c how before after text outcome run) in
     keeps_in given.held run.runs.last.now.guard.second run.left.keeper.second there.0 run.runs.last.now.scene.gateway there.1
     run.runs.ends.keeps.0
 
@@ -390,13 +365,9 @@ tick_recent held part manner is stops s t turns look text p =
     (ticked_recent held (part then.guard) (part p.done.keeper) then.scene.gateway
     (is.ticks then.guard p.done.keeper then.scene.gateway p.done.ticks))
 
-pub runs_keep_recent : {S : Type 0} (held : S → Option (List ℕ)) → RunsKeepRecent held
-runs_keep_recent held how stops s t turns look text p =
-    tick_recent held itself (manner_of held how) (whole held how) stops s t turns look text p
-
-pub watched_runs_keep_recent : {S L : Type 0} (held : S → Option (List ℕ)) (log_held : L → Option (List ℕ))
-    → WatchedRunsKeepRecent held log_held
-watched_runs_keep_recent held log_held how stops s t turns look text p =
+pub runs_keep_recent : {S L : Type 0} (held : S → Option (List ℕ)) (log_held : L → Option (List ℕ))
+    → RunsKeepRecent held log_held
+runs_keep_recent held log_held how stops s t turns look text p =
     tick_recent held second_part (watched_manner_of held log_held how) (second held log_held how) stops s t turns look text p
 
 -- ---- how old the text gets

@@ -20,7 +20,7 @@ use Rattle.gw_watchers.specs.Watching.{Watching}
 use Rattle.gw_service.specs.Chain.{AreLinks, IsTicked, Link, Look, Manner, Runs, Stage}
 use Rattle.gw_service.specs.Keeping.{failing_in}
 use Rattle.gw_service.specs.declared.running.End.{End}
-use Rattle.gw_service.specs.Kept.{Given, KeepsFirst, RunsKept, RunsWatched, manner_of, reporting_of, watched_manner_of}
+use Rattle.gw_service.specs.Kept.{Given, KeepsFirst, RunsWatched, reporting_of, watched_manner_of}
 use Rattle.gw_service.specs.Serving.{Ends, Service}
 use Rattle.gw_service.specs.Stats.{Reporting}
 use Rattle.gw_service.specs.declared.fault.ServiceFault.{ServiceFault}
@@ -113,10 +113,7 @@ KeepsAtEnd held part manner count first (Err fault) links last runs =
     KeepsCurrent held (part last.now.guard) last.config
     (asked_until fault runs.ends.ends.then.scene.gateway last.now.scene.gateway)
 
--- the guard of a run that isn't watched keeps the state itself, and the second part of one that is
-abbrev pub itself : {S : Type 0} → Kept S → Kept S
-itself kept = kept
-
+-- the second part of the guard of a run keeps the state
 abbrev pub second_part : {S L : Type 0} → Both (Watching L L) (Kept S) → Kept S
 second_part both = both.second
 
@@ -126,25 +123,15 @@ FirstIsCurrent {S} held = (store : S) (c : Configuration) (w : State) (kept : Ke
     KeepsCurrent held kept c w
 
 -- If it is current at a stage, it is wherever links lead from there: through reloads and events whose datagrams are withheld too.
-abbrev pub RunsKeepCurrent : {S : Type 0} → (S → Option (List ℕ)) → Type 0
-RunsKeepCurrent {S} held = (how : Reporting) (s t : Stage (Kept S)) (links : List Link) → AreLinks (manner_of held how) s links t →
-    KeepsAt held itself s → KeepsAt held itself t
-
-abbrev pub WatchedRunsKeepCurrent : {S L : Type 0} → (S → Option (List ℕ)) → (L → Option (List ℕ)) → Type 0
-WatchedRunsKeepCurrent {S} {L} held log_held = (how : Reporting) (s t : Stage (Both (Watching L L) (Kept S))) (links : List Link) →
+abbrev pub RunsKeepCurrent : {S L : Type 0} → (S → Option (List ℕ)) → (L → Option (List ℕ)) → Type 0
+RunsKeepCurrent {S} {L} held log_held = (how : Reporting) (s t : Stage (Both (Watching L L) (Kept S))) (links : List Link) →
     AreLinks (watched_manner_of held log_held how) s links t → KeepsAt held second_part s → KeepsAt held second_part t
 
 -- So a run to which a store is given keeps the state in it to its end.
 abbrev pub RunsEndCurrent : {S Q L : Type 0} → Given S Q L → Type 0
-RunsEndCurrent {S} given = (store : S) → given.store ≡ Some store → (c : Configuration) (how : Service) (before after : Ends)
-    (text : List ℕ) (outcome : Result (Unit {0}) ServiceFault) → (run : RunsKept given c how before after text outcome) →
-    KeepsAtEnd given.held itself (manner_of given.held (reporting_of given how run.gateway)) how.turns _ run.answer run.runs.links
-    run.runs.last run.runs.runs
-
-abbrev pub WatchedRunsEndCurrent : {S Q L : Type 0} → Given S Q L → Type 0
-WatchedRunsEndCurrent {S} {Q} {L} given = (store : S) → given.store ≡ Some store → (watcher : Watching L L) (c : Configuration)
-    (how : Service) (before after : Ends) (text : List ℕ) (outcome : Result (Unit {0}) ServiceFault) →
-    (run : RunsWatched given watcher c how before after text outcome) →
+RunsEndCurrent {S} {Q} {L} given = (store : S) → given.store ≡ Some store → (c : Configuration) (how : Service)
+    (before after : Ends) (text : List ℕ) (outcome : Result (Unit {0}) ServiceFault) →
+    (run : RunsWatched given c how before after text outcome) →
     KeepsAtEnd given.held second_part (watched_manner_of given.held given.log_held (reporting_of given how run.gateway)) how.turns _
     run.answer run.runs.links run.runs.last run.runs.runs
 
@@ -156,14 +143,9 @@ pub record IsCurrentIn {S : Type 0} (held : S → Option (List ℕ)) (w : State)
 
 -- Whatever ends such a run, it tries to keep its last state: the store is up to date in that state then, or the try failed.
 abbrev pub RunsKeepLast : {S Q L : Type 0} → Given S Q L → Type 0
-RunsKeepLast {S} given = (store : S) → given.store ≡ Some store → (c : Configuration) (how : Service) (before after : Ends)
-    (text : List ℕ) (outcome : Result (Unit {0}) ServiceFault) → (run : RunsKept given c how before after text outcome) →
-    IsCurrentIn given.held run.runs.last.now.scene.gateway run.left.keeper
-
-abbrev pub WatchedRunsKeepLast : {S Q L : Type 0} → Given S Q L → Type 0
-WatchedRunsKeepLast {S} {Q} {L} given = (store : S) → given.store ≡ Some store → (watcher : Watching L L) (c : Configuration)
-    (how : Service) (before after : Ends) (text : List ℕ) (outcome : Result (Unit {0}) ServiceFault) →
-    (run : RunsWatched given watcher c how before after text outcome) →
+RunsKeepLast {S} {Q} {L} given = (store : S) → given.store ≡ Some store → (c : Configuration) (how : Service)
+    (before after : Ends) (text : List ℕ) (outcome : Result (Unit {0}) ServiceFault) →
+    (run : RunsWatched given c how before after text outcome) →
     IsCurrentIn given.held run.runs.last.now.scene.gateway run.left.keeper.second
 
 -- Where it is current and no last try failed, the store is up to date, as that of a gateway of the configuration in force.
@@ -176,12 +158,8 @@ KeptIsUpToDate {S} held = (kept : Kept S) (c : Configuration) (w : State) → (n
 abbrev pub IsRecentIn : {S : Type 0} → Kept S → State → Type 0
 IsRecentIn {S} kept w = (k : Keeping S) → kept ≡ In k → IsRecent k.kept (saved_of k.origin w)
 
-abbrev pub RunsKeepRecent : {S : Type 0} → (S → Option (List ℕ)) → Type 0
-RunsKeepRecent {S} held = (how : Reporting) (stops : Bool) (s t : Stage (Kept S)) (turns : List Turn) (look : Look) (text : List ℕ) →
-    IsTicked (manner_of held how) stops s turns look text t → IsRecentIn t.now.guard t.now.scene.gateway
-
-abbrev pub WatchedRunsKeepRecent : {S L : Type 0} → (S → Option (List ℕ)) → (L → Option (List ℕ)) → Type 0
-WatchedRunsKeepRecent {S} {L} held log_held = (how : Reporting) (stops : Bool) (s t : Stage (Both (Watching L L) (Kept S))) (turns : List Turn)
+abbrev pub RunsKeepRecent : {S L : Type 0} → (S → Option (List ℕ)) → (L → Option (List ℕ)) → Type 0
+RunsKeepRecent {S} {L} held log_held = (how : Reporting) (stops : Bool) (s t : Stage (Both (Watching L L) (Kept S))) (turns : List Turn)
     (look : Look) (text : List ℕ) → IsTicked (watched_manner_of held log_held how) stops s turns look text t →
     IsRecentIn t.now.guard.second t.now.scene.gateway
 

@@ -1,6 +1,6 @@
 //! Laws of a keeper that guards a gateway, over any store. The functions do nothing: their contracts are the laws.
 ghost use Rattle.gw_service.specs.Kept.{Given};
-ghost use Rattle.gw_state_laws.specs.keeping.Laws.{AnsweredIsKept, CurrentIsUpToDate, FaultsKeep, FirstIsCurrent, HeldStays, KeptIsAhead, KeptIsUpToDate, KeptIsYoung, PausesKeep, RunsEndCurrent, RunsKeepCurrent, RunsKeepLast, RunsKeepRecent, TicksKeepCurrent, TriedIsCurrent, TriedLastIsCurrent, WatchedRunsEndCurrent, WatchedRunsKeepCurrent, WatchedRunsKeepLast, WatchedRunsKeepRecent, WithheldIsOldOrNew};
+ghost use Rattle.gw_state_laws.specs.keeping.Laws.{AnsweredIsKept, CurrentIsUpToDate, FaultsKeep, FirstIsCurrent, HeldStays, KeptIsAhead, KeptIsUpToDate, KeptIsYoung, PausesKeep, RunsEndCurrent, RunsKeepCurrent, RunsKeepLast, RunsKeepRecent, TicksKeepCurrent, TriedIsCurrent, TriedLastIsCurrent, WithheldIsOldOrNew};
 
 use gw_script::OctetSink;
 use gw_system::Requests;
@@ -36,21 +36,17 @@ pub fn at_each_pause<S: Store>()
 /// the text of a state fewer than 600 ticks ago, whose number of a denial is ahead, unless the last try failed.
 pub fn over_a_run<S: Store, L: OctetSink>()
     ensures first { FirstIsCurrent S.held }
-    ensures runs { RunsKeepCurrent S.held }
-    ensures watched { WatchedRunsKeepCurrent S.held L.held }
+    ensures runs { RunsKeepCurrent S.held L.held }
     ensures current { KeptIsUpToDate S.held }
-    ensures recent { RunsKeepRecent S.held }
-    ensures watched_recent { WatchedRunsKeepRecent S.held L.held }
+    ensures recent { RunsKeepRecent S.held L.held }
     ensures young { KeptIsYoung S.held }
     ensures ahead { KeptIsAhead S.held }
 {}
 
-/// What a store holds at the end of a run that keeps its state there, watched or not: it is up to date, or the last try failed. If the
+/// What a store holds at the end of a run that keeps its state there, whatever watches it: it is up to date, or the last try failed. If the
 /// run ends in a fault but that of the log, it is so before the last event. Of such an event nothing was sent. Then the last state is
 /// kept, whatever ended the run: the store is up to date in it, or that try failed.
 pub fn at_each_end<S: Store + Drop, Q: Requests + Drop, L: OctetSink + Drop>()
     ensures ended { (given : Given S Q L) → RunsEndCurrent given }
-    ensures watched { (given : Given S Q L) → WatchedRunsEndCurrent given }
     ensures last { (given : Given S Q L) → RunsKeepLast given }
-    ensures watched_last { (given : Given S Q L) → WatchedRunsKeepLast given }
 {}

@@ -1,9 +1,7 @@
-use Rattle.std.proofs.Common.{◌≡◌, ◌-◌, ◌≤◌}
 use Rattle.gw_turns.specs.Stretch.{CanCount}
 use Rattle.gw_gateway_vectors.proofs.serving.serve_reporting.Given as goal
 
 abbrev pub invariant-loop : goal.invariant-loop
 invariant-loop l = record {
-  done : l.state.served.turns ≤ l.turns;
-  can : CanCount l.state.served l.state.tally l.edges.wire.failures (l.turns - l.state.served.turns);
+  can : CanCount l.state.served l.state.tally l.edges.wire.failures l.state.left;
 }

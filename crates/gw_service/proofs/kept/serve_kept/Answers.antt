@@ -23,7 +23,7 @@ returns-in-Ok-open-clause-served g c =
     let third = held c.write_note-in-Ok-open.new.errors in
     let fourth = held c.write_note-in-Ok-open-2.new.errors in (
       ((line ++ warning) ++ text) ++ done.0,
-      ran before c.in-Ok-open.field-0.log c.run_open-outcome.new.log c.in-Ok.sockets c.run_open-outcome.new.sockets
+      ran before c.in-Ok-open.field-0.log c.run_open-outcome.new.opened.log c.in-Ok.sockets c.run_open-outcome.new.opened.sockets
           (writer_contents g.W.Write.contents c.open.new.output) warning done.0
           (record {
             saved = is.saved;

@@ -19,12 +19,12 @@ returns-clause-served g c =
     let as_said : c.as_bytes-2.result.now ≡ wait = search rules in
     let held = g.E.OctetSink.held in
     let old = c.args.host.now in
-    let options = c.args.options.now in
+    let options = c.args.order.options.now in
     let given = machine (OpensAtLine (g.H.Host.LogOpens old) (g.H.Host.LogIsCut old) g.H.Log.OctetSink.held) (g.H.Host.SocketsOpen old)
     (g.H.Host.RoutesIp old) (g.H.Host.Closes c.serve_kept.new.host) g.H.Log.OctetSink.held g.H.Sockets.Wire.calls in
     let states = state_machine (g.H.Host.FileReads old) (g.H.Host.LastDenials old) (g.H.Host.StoreOpens old) (g.H.Host.ReloadsOpen old)
     g.H.StateStore.Store.held g.H.Reloads.Requests.recorded in
-    let line = startup_line options.verbose c.args.edition.config (option_map string_bytes options.log) in (
+    let line = startup_line options.verbose c.args.order.edition.config (option_map string_bytes options.log) in (
       (note ++ wait) ++ done.0,
       (
         c.is_waiting-waits.result,
@@ -34,7 +34,7 @@ returns-clause-served g c =
         (
           done.1,
           λ plain quiet. plain_is_served given states options (writer_contents g.W.Write.contents c.args.output.now)
-              (writer_contents g.W.Write.contents c.serve_kept.new.output) c.args.edition line done.0 c.serve_kept.result plain quiet
+              (writer_contents g.W.Write.contents c.serve_kept.new.output) c.args.order.edition line done.0 c.serve_kept.result plain quiet
               done.1,
         ),
       ),

@@ -6,10 +6,10 @@ use Rattle.gw_service.specs.StampedRun.{whole_with_stamps}
 use Rattle.gw_service.proofs.StampedLemmas.{with_them, without_them}
 use Rattle.gw_service.proofs.stamped_run.serve_run.Goals as goal
 
-pub returns-then-options-clause-served : goal.returns-then-options-clause-served
-returns-then-options-clause-served g c =
+pub returns-then-order-clause-served : goal.returns-then-order-clause-served
+returns-then-order-clause-served g c =
     let old = c.args.host.now in
-    let options = c.args.options.now in
+    let options = c.args.order.options.now in
     let held = writer_contents g.W.Write.contents c.args.output.now in
     let holds = writer_contents g.W.Write.contents c.serve_stamped.new.output in
     let whole : WholeMachine g.row.H-Log.Denot g.row.H-Sockets.Denot g.row.H-StateStore.Denot g.row.H-Reloads.Denot = whole_machine
@@ -20,15 +20,15 @@ returns-then-options-clause-served g c =
     let done = c.serve_stamped.ensures.served in (
       done.0,
       with_them options.stamp
-          (LeavesService (whole_with_stamps {C = g.row.H-Calendar.Denot} whole) options held holds c.args.edition done.0 c.serve_stamped.result)
-          (LeavesService whole options held holds c.args.edition done.0 c.serve_stamped.result) c.if-options.true done.1,
+          (LeavesService (whole_with_stamps {C = g.row.H-Calendar.Denot} whole) options held holds c.args.order.edition done.0 c.serve_stamped.result)
+          (LeavesService whole options held holds c.args.order.edition done.0 c.serve_stamped.result) c.if-order.true done.1,
       done.2,
     )
 
-pub returns-else-options-clause-served : goal.returns-else-options-clause-served
-returns-else-options-clause-served g c =
+pub returns-else-order-clause-served : goal.returns-else-order-clause-served
+returns-else-order-clause-served g c =
     let old = c.args.host.now in
-    let options = c.args.options.now in
+    let options = c.args.order.options.now in
     let held = writer_contents g.W.Write.contents c.args.output.now in
     let holds = writer_contents g.W.Write.contents c.serve_ports.new.output in
     let whole : WholeMachine g.row.H-Log.Denot g.row.H-Sockets.Denot g.row.H-StateStore.Denot g.row.H-Reloads.Denot = whole_machine
@@ -39,7 +39,7 @@ returns-else-options-clause-served g c =
     let done = c.serve_ports.ensures.served in (
       done.0,
       without_them options.stamp
-          (LeavesService (whole_with_stamps {C = g.row.H-Calendar.Denot} whole) options held holds c.args.edition done.0 c.serve_ports.result)
-          (LeavesService whole options held holds c.args.edition done.0 c.serve_ports.result) c.if-options.false done.1,
+          (LeavesService (whole_with_stamps {C = g.row.H-Calendar.Denot} whole) options held holds c.args.order.edition done.0 c.serve_ports.result)
+          (LeavesService whole options held holds c.args.order.edition done.0 c.serve_ports.result) c.if-order.false done.1,
       done.2,
     )

@@ -26,8 +26,8 @@ returns-clause-served g c =
       done.0,
       service_closes closed states (g.H.Host.Waits old)
           (λ sockets log. (last : Option (Noted (Stamped g.row.H-Log.Denot g.row.H-Calendar.Denot)))
-          × EndsIn g.H.Log.OctetSink.held log last × Closes sockets (log_if last)) c.close_on.ensures c.args.options.now
-          (writer_contents g.W.Write.contents c.args.output.now) (writer_contents g.W.Write.contents c.serve_ports-outcome.new.output) c.args.edition
+          × EndsIn g.H.Log.OctetSink.held log last × Closes sockets (log_if last)) c.close_on.ensures c.args.order.options.now
+          (writer_contents g.W.Write.contents c.args.output.now) (writer_contents g.W.Write.contents c.serve_ports-outcome.new.output) c.args.order.edition
           done.0 c.serve_ports-outcome.result done.1,
       done.2,
     )

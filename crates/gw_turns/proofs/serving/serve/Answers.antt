@@ -11,6 +11,7 @@ loop-init g c =
     let start = scene c.args.gateway.now (g.L.OctetSink.held c.args.log.now) (g.W.Wire.calls c.args.wire.now) in
     let none : c.new-state.result.served ≡ zero_counts = c.new-state.ensures.served in
     record {
+      left = omega (arith, c.new-state.ensures.left);
       served = subst (λ (s : Served). ServesAll 0 start s start) (sym none) (serves_none start);
       failures = omega (arith, ap (λ (s : Served). s.recv_failures) none, ap (λ (s : Served). s.send_failures) none);
       below = none_below c.new-state.result.served.taken c.new-state.result.tally c.new-state.ensures.tally;
@@ -27,6 +28,7 @@ take_turn-requires g c =
     let failures = g.W.Wire.failure_count in
     let room = room_left c.loop.counter c.args.turns (failures c.args.wire.now) (failures c.loop.wire) start now c.loop.state.served in
     record {
+      some = omega (arith, so_far.left, c.loop-test.true);
       room = room so_far.served c.loop-test.true c.requires.turns c.requires.failures so_far.few so_far.failures;
       below = so_far.below;
     }
@@ -39,6 +41,7 @@ loop-preserved g c =
     let now = scene c.loop.gateway (g.L.OctetSink.held c.loop.log) (g.W.Wire.calls c.loop.wire) in
     let then = scene c.take_turn.new.gateway (g.L.OctetSink.held c.take_turn.new.log) (g.W.Wire.calls c.take_turn.new.wire) in
     record {
+      left = omega (arith, so_far.left, turn.left);
       served = serves_more c.loop.counter start now then c.loop.state.served c.take_turn.new.self.served c.loop.state.tally
           c.take_turn.new.self.tally so_far.served turn.end;
       below = turn.below;

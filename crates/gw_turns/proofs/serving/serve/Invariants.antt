@@ -10,6 +10,7 @@ invariant-loop g l =
     let log = g.L.OctetSink in
     let counts = l.state.served in
     record {
+      left : l.state.left + l.counter ≡ l.turns;
       served : ServesAll l.counter (scene l.fn.gateway (log.held l.fn.log) (wire.calls l.fn.wire)) counts (scene l.gateway
           (log.held l.log) (wire.calls l.wire));
       failures : wire.failure_count l.wire ≡ wire.failure_count l.fn.wire + counts.recv_failures + counts.send_failures;

@@ -21,7 +21,7 @@ returns-clause-runs g c = λ config is_config.
     let calls = g.W.Wire.calls c.serve-answer.new.wire in
     ran_holding (holding_manner g.K.Guard.Passes g.K.StateKeeper.Ticks g.K.StateKeeper.Adopts g.K.StateKeeper.troubles g.K.StateKeeper.unkept
     g.K.StateKeeper.more how g.K.StateKeeper.Lasts)
-    (end_stats (λ h. g.K.StateKeeper.unkept h.keeper) (more_holding g.K.StateKeeper.more) how) how.start c.args.turns
+    (end_stats (λ h. g.K.StateKeeper.unkept h.keeper) (more_holding g.K.StateKeeper.more) how) how.start c.args.self.now.running.state.left
     (λ (t : Troubles). stage_of recorded config (record old.running { said = t }) (g.L.OctetSink.held c.args.log.now) (g.W.Wire.calls c.args.wire.now))
     (λ (t : Troubles). stage_of recorded config (record old.running { said = t; announcing = c.announce.new.self })
     (g.L.OctetSink.held c.args.log.now) (g.W.Wire.calls c.announce.new.wire))

@@ -9,9 +9,10 @@ use Rattle.gw_service.proofs.holding_run.HoldingRun.serve_steps.Given as goal
 -- What the loop keeps: steps lead to where it is, and what isn't served is left.
 abbrev pub invariant-loop : goal.invariant-loop
 invariant-loop g l =
-    (l.left + l.counter ≤ l.turns)
-    × (l.self.running.state.served.turns + l.left ≡ l.fn.self.running.state.served.turns + l.turns)
-    × CanCount l.self.running.state.served l.self.running.state.tally (g.W.Wire.failure_count l.wire) l.left
+    (l.self.running.state.left + l.counter ≤ l.fn.self.running.state.left)
+    × (l.self.running.state.served.turns + l.self.running.state.left
+    ≡ l.fn.self.running.state.served.turns + l.fn.self.running.state.left)
+    × CanCount l.self.running.state.served l.self.running.state.tally (g.W.Wire.failure_count l.wire) l.self.running.state.left
     × (g.E.OctetSink.NeverFails l.fn.errors → g.E.OctetSink.NeverFails l.errors)
     × Stepped (holding_manner g.K.Guard.Passes g.K.StateKeeper.Ticks g.K.StateKeeper.Adopts g.K.StateKeeper.troubles g.K.StateKeeper.unkept
     g.K.StateKeeper.more (reporting_by l.fn.schedule) g.K.StateKeeper.Lasts) l.fn.self.running.origin

@@ -30,7 +30,7 @@ returns-then-not-has_log_failed-clause-comes g c = λ config is_config.
       done.1,
       done.2,
       subst (λ (n : ℕ). GoesTo how before c.advance-ended.result done.1 (hold (counting mid n mid.now.guard.withheld) old.waiting)) (sym c.len-self.ensures.count)
-          (goes_over_log how c.args.turns was mid old.waiting old.waiting c.advance-ended.result done.1 _ c.requires.none refl done.3),
+          (goes_over_log how c.args.self.now.running.state.left was mid old.waiting old.waiting c.advance-ended.result done.1 _ c.requires.none refl done.3),
       done.4,
     )
 
@@ -57,7 +57,7 @@ returns-then-not-hold-clause-comes g c = λ config is_config.
       ap (λ (r : Running _ _ _). r.origin) running ∙ done.2,
       subst (λ (r : Running _ _ _). GoesTo how before (Err serving.Log) done.1 (hold (stage_of recorded done.0 r (log now.log) (calls now.wire)) is.waiting)) (sym running)
           (subst (λ (a : Result (Option End) ServeFault). GoesTo how before a done.1 (hold (counting mid (length is.waiting) mid.now.guard.withheld) is.waiting)) failed
-          (goes_over_log how c.args.turns was mid old.waiting is.waiting c.advance-ended.result done.1 _ c.requires.none left done.3)),
+          (goes_over_log how c.args.self.now.running.state.left was mid old.waiting is.waiting c.advance-ended.result done.1 _ c.requires.none left done.3)),
       λ never. subst (λ (l : List ℕ). Appends (held c.args.errors.now) (held c.hold.new.errors) l) (append-nil done.1)
           (appends_two (held c.args.errors.now) (held now.errors) (held c.hold.new.errors) done.1 [] (done.4 never)
           (subst (λ (b : Bool). Appends (held now.errors) (held c.hold.new.errors) (if b then waits_line else [])) c.if-not-hold.true
@@ -85,7 +85,7 @@ returns-clause-comes g c = λ config is_config.
       ap (λ (r : Running _ _ _). r.origin) running ∙ done.2,
       subst (λ (r : Running _ _ _). GoesTo how before (Ok None) (done.1 ++ waits_line) (hold (stage_of recorded done.0 r (log now.log) (calls now.wire)) is.waiting))
           (sym running)
-          (goes_failed how c.args.turns was mid old.waiting is.waiting c.advance-ended.result done.1 _ c.requires.none
+          (goes_failed how c.args.self.now.running.state.left was mid old.waiting is.waiting c.advance-ended.result done.1 _ c.requires.none
           (c.hold.ensures.waiting c.if-not-hold.false) (sym c.has_log_failed.ensures ∙ c.if-not-has_log_failed.false) done.3),
       λ never. appends_two (held c.args.errors.now) (held now.errors) (held c.hold.new.errors) done.1 waits_line (done.4 never)
           (subst (λ (b : Bool). Appends (held now.errors) (held c.hold.new.errors) (if b then waits_line else [])) c.if-not-hold.false

@@ -18,7 +18,7 @@ returns-clause-comes g c = λ config is_config log.
       done.1,
       done.2,
       subst (λ (n : ℕ). GoesTo how before c.advance-ended.result done.1 (hold (counting then n then.now.guard.withheld) now.log)) (sym c.len-self.ensures.count)
-          (goes_over_waiting how c.args.turns (stage_of g.Q.Requests.recorded config old.running log (calls c.args.wire.now)) then old.waiting
+          (goes_over_waiting how c.args.self.now.running.state.left (stage_of g.Q.Requests.recorded config old.running log (calls c.args.wire.now)) then old.waiting
           now.log c.advance-ended.result done.1 _ c.requires.some refl done.3),
       done.4,
     )

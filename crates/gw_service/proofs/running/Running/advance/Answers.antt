@@ -1,4 +1,4 @@
-use Rattle.std.proofs.Common.{◌∙◌, ◌+◌, ◌<◌, ◌≤◌, ◌++◌, ◌∷◌, [], ℕ, List, Option, ap, refl, subst, sym, inl, inr}
+use Rattle.std.proofs.Common.{◌≡◌, ◌∙◌, ◌+◌, ◌<◌, ◌++◌, ◌∷◌, [], ℕ, List, Option, ap, refl, subst, sym, inl, inr}
 use Rattle.std.specs.Io.KnownBytes.{Appends}
 use Rattle.gw_script.specs.Event as event
 use Rattle.gw_turns.specs.Serve.{scene, taken_event}
@@ -21,7 +21,7 @@ use Rattle.gw_service.proofs.running.Running.advance.Goals as goal
 
 pub returns-in-Ok-Turns-clause-advances : goal.returns-in-Ok-Turns-clause-advances
 returns-in-Ok-Turns-clause-advances g c = λ config is_config.
-    let end = ends_as g.K.Guard.Passes c.args.turns
+    let end = ends_as g.K.Guard.Passes c.args.self.now.state.left
     (moment (scene c.args.self.now.gateway (g.L.OctetSink.held c.args.log.now) (g.W.Wire.calls c.args.wire.now)) c.args.self.now.keeper
     c.args.self.now.state.served c.args.self.now.state.tally)
     (moment (scene c.serve_to_tick.new.gateway (g.L.OctetSink.held c.serve_to_tick.new.log) (g.W.Wire.calls c.serve_to_tick.new.wire))
@@ -40,10 +40,10 @@ returns-in-Ok-Turns-clause-more g c = λ some.
     let new = c.serve_to_tick.new in
     let held = g.L.OctetSink.held in
     let calls = g.W.Wire.calls in
-    more_at_turns g.K.Guard.Passes c.args.turns
+    more_at_turns g.K.Guard.Passes c.args.self.now.state.left
     (moment (scene old.gateway (held c.args.log.now) (calls c.args.wire.now)) old.keeper old.state.served old.state.tally)
     (moment (scene new.gateway (held new.log) (calls new.wire)) new.guard new.self.served new.self.tally)
-    (ends_as g.K.Guard.Passes c.args.turns
+    (ends_as g.K.Guard.Passes c.args.self.now.state.left
     (moment (scene c.args.self.now.gateway (g.L.OctetSink.held c.args.log.now) (g.W.Wire.calls c.args.wire.now)) c.args.self.now.keeper
     c.args.self.now.state.served c.args.self.now.state.tally)
     (moment (scene c.serve_to_tick.new.gateway (g.L.OctetSink.held c.serve_to_tick.new.log) (g.W.Wire.calls c.serve_to_tick.new.wire))
@@ -52,7 +52,7 @@ returns-in-Ok-Turns-clause-more g c = λ some.
 
 pub returns-then-is_behind-clause-advances : goal.returns-then-is_behind-clause-advances
 returns-then-is_behind-clause-advances g c = λ config is_config.
-    let end = ends_as g.K.Guard.Passes c.args.turns
+    let end = ends_as g.K.Guard.Passes c.args.self.now.state.left
     (moment (scene c.args.self.now.gateway (g.L.OctetSink.held c.args.log.now) (g.W.Wire.calls c.args.wire.now)) c.args.self.now.keeper
     c.args.self.now.state.served c.args.self.now.state.tally)
     (moment (scene c.serve_to_tick.new.gateway (g.L.OctetSink.held c.serve_to_tick.new.log) (g.W.Wire.calls c.serve_to_tick.new.wire))
@@ -76,10 +76,10 @@ returns-then-is_behind-clause-more g c = λ some.
     let new = c.serve_to_tick.new in
     let held = g.L.OctetSink.held in
     let calls = g.W.Wire.calls in
-    more_at_tick g.K.Guard.Passes c.args.turns
+    more_at_tick g.K.Guard.Passes c.args.self.now.state.left
     (moment (scene old.gateway (held c.args.log.now) (calls c.args.wire.now)) old.keeper old.state.served old.state.tally)
     (moment (scene new.gateway (held new.log) (calls new.wire)) new.guard new.self.served new.self.tally)
-    (ends_as g.K.Guard.Passes c.args.turns
+    (ends_as g.K.Guard.Passes c.args.self.now.state.left
     (moment (scene c.args.self.now.gateway (g.L.OctetSink.held c.args.log.now) (g.W.Wire.calls c.args.wire.now)) c.args.self.now.keeper
     c.args.self.now.state.served c.args.self.now.state.tally)
     (moment (scene c.serve_to_tick.new.gateway (g.L.OctetSink.held c.serve_to_tick.new.log) (g.W.Wire.calls c.serve_to_tick.new.wire))
@@ -92,10 +92,10 @@ returns-in_default-clause-more g c = λ some.
     let new = c.serve_to_tick.new in
     let held = g.L.OctetSink.held in
     let calls = g.W.Wire.calls in
-    more_at_tick g.K.Guard.Passes c.args.turns
+    more_at_tick g.K.Guard.Passes c.args.self.now.state.left
     (moment (scene old.gateway (held c.args.log.now) (calls c.args.wire.now)) old.keeper old.state.served old.state.tally)
     (moment (scene new.gateway (held new.log) (calls new.wire)) new.guard new.self.served new.self.tally)
-    (ends_as g.K.Guard.Passes c.args.turns
+    (ends_as g.K.Guard.Passes c.args.self.now.state.left
     (moment (scene c.args.self.now.gateway (g.L.OctetSink.held c.args.log.now) (g.W.Wire.calls c.args.wire.now)) c.args.self.now.keeper
     c.args.self.now.state.served c.args.self.now.state.tally)
     (moment (scene c.serve_to_tick.new.gateway (g.L.OctetSink.held c.serve_to_tick.new.log) (g.W.Wire.calls c.serve_to_tick.new.wire))
@@ -104,7 +104,7 @@ returns-in_default-clause-more g c = λ some.
 
 pub returns-in-Ok-clause-advances : goal.returns-in-Ok-clause-advances
 returns-in-Ok-clause-advances g c = λ config is_config.
-    let end = ends_as g.K.Guard.Passes c.args.turns
+    let end = ends_as g.K.Guard.Passes c.args.self.now.state.left
     (moment (scene c.args.self.now.gateway (g.L.OctetSink.held c.args.log.now) (g.W.Wire.calls c.args.wire.now)) c.args.self.now.keeper
     c.args.self.now.state.served c.args.self.now.state.tally)
     (moment (scene c.serve_to_tick.new.gateway (g.L.OctetSink.held c.serve_to_tick.new.log) (g.W.Wire.calls c.serve_to_tick.new.wire))
@@ -119,10 +119,10 @@ returns-in-Ok-clause-advances g c = λ config is_config.
     let after = c.at_tick-stops.new.self in
     let metrics = metered old.metrics in
     let put = metered c.put_due.new.metrics in
-    let report_of_lost : Option ℕ → List ℕ = λ lost. due_stats g.K.StateKeeper.unkept g.K.StateKeeper.more
-    (reporting_by c.args.schedule.now) after.keeper after.counts c.announce.new.self lost after.gateway
+    let report_of : Option (Writing _) → List ℕ = λ written. due_stats g.K.StateKeeper.unkept g.K.StateKeeper.more
+    (reporting_by c.args.schedule.now) after.keeper after.counts c.announce.new.self (lost_by (metered written)) after.gateway
     after.state.served after.state.tally in
-    let report = report_of_lost (lost_by metrics) in
+    let report = report_of old.metrics in
     let lines = metrics_notice (failing_by metrics) (failing_by put) in
     let turns = end.turns ++ taken_event event.Tick end.tries ∷ [] in
     let calls = g.W.Wire.calls stretch.wire in
@@ -146,7 +146,7 @@ returns-in-Ok-clause-advances g c = λ config is_config.
       done.0,
       ((look ++ notice) ++ report) ++ lines,
       done.2,
-      advances_as by c.args.turns first text _ c.at_tick-stops.result left c.end_of.result c.end_of.ensures
+      advances_as by c.args.self.now.state.left first text _ c.at_tick-stops.result left c.end_of.result c.end_of.ensures
           (advanced_by by first turns done.1 text _ c.at_tick-stops.result left done.5.0.1
           (c.announce.ensures.behind ∙ sym c.is_behind.ensures ∙ c.if-is_behind.false)
           (c.sync.new.self, c.in-Ok.ensures.lasts, c.at_tick-stops.ensures.log)
@@ -185,9 +185,8 @@ returns-in-Ok-clause-advances g c = λ config is_config.
           (appends_two (held c.args.errors.now) (held c.at_tick-stops.new.errors) (held c.notice-self.new.errors) look notice (done.4 never)
           (subst (λ (f : Troubles). Appends (held c.at_tick-stops.new.errors) (held c.notice-self.new.errors) (notice_of f c.notice-self.result))
           c.at_tick-stops.ensures.said (c.notice-self.ensures.text one)))
-          (subst (λ (lost : Option ℕ). Appends (held c.notice-self.new.errors) (held c.report_due.new.errors) (report_of_lost lost))
-          (c.lost_of.ensures ∙ ap (λ (m : Option (Writing _)). lost_by (metered m)) c.at_tick-stops.ensures.metrics)
-          (c.report_due.ensures.said two)))
+          (subst (λ (m : Option (Writing _)). Appends (held c.notice-self.new.errors) (held c.report_due.new.errors) (report_of m))
+          c.at_tick-stops.ensures.metrics (c.report_due.ensures.said two)))
           (subst (λ (is : Option StoreFault). Appends (held c.report_due.new.errors) (held c.report_metrics.new.errors)
           (metrics_notice (failing_by metrics) is)) c.failing_of.ensures
           (subst (λ (was : Option StoreFault). Appends (held c.report_due.new.errors) (held c.report_metrics.new.errors)
@@ -196,11 +195,14 @@ returns-in-Ok-clause-advances g c = λ config is_config.
     )
 
 pub returns-in-Ok-clause-rest : goal.returns-in-Ok-clause-rest
-returns-in-Ok-clause-rest g c = λ rest most.
-    subst (λ (s : ServeState). CanCount s.served s.tally (g.W.Wire.failure_count c.announce.new.wire) rest) (sym c.at_tick-stops.ensures.state)
-    (c.announce.ensures.counted _ _ rest
-    (c.serve_to_tick.ensures.rest rest
-    (subst (λ (s : ServeState). s.served.turns + rest ≤ c.args.self.now.state.served.turns + c.args.turns) c.at_tick-stops.ensures.state most)))
+returns-in-Ok-clause-rest g c =
+    subst (λ (s : ServeState). CanCount s.served s.tally (g.W.Wire.failure_count c.announce.new.wire) s.left) (sym c.at_tick-stops.ensures.state)
+    (c.announce.ensures.counted _ _ _ c.serve_to_tick.ensures.rest)
+
+pub returns-in-Ok-clause-left : goal.returns-in-Ok-clause-left
+returns-in-Ok-clause-left g c =
+    subst (λ (s : ServeState). s.served.turns + s.left ≡ c.args.self.now.state.served.turns + c.args.self.now.state.left)
+    (sym c.at_tick-stops.ensures.state) c.serve_to_tick.ensures.left
 
 pub returns-in-Ok-clause-more : goal.returns-in-Ok-clause-more
 returns-in-Ok-clause-more g c = λ some.
@@ -209,10 +211,10 @@ returns-in-Ok-clause-more g c = λ some.
     let held = g.L.OctetSink.held in
     let calls = g.W.Wire.calls in
     subst (λ (s : ServeState). old.state.served.turns < s.served.turns) (sym c.at_tick-stops.ensures.state)
-    (more_at_tick g.K.Guard.Passes c.args.turns
+    (more_at_tick g.K.Guard.Passes c.args.self.now.state.left
     (moment (scene old.gateway (held c.args.log.now) (calls c.args.wire.now)) old.keeper old.state.served old.state.tally)
     (moment (scene new.gateway (held new.log) (calls new.wire)) new.guard new.self.served new.self.tally)
-    (ends_as g.K.Guard.Passes c.args.turns
+    (ends_as g.K.Guard.Passes c.args.self.now.state.left
     (moment (scene c.args.self.now.gateway (g.L.OctetSink.held c.args.log.now) (g.W.Wire.calls c.args.wire.now)) c.args.self.now.keeper
     c.args.self.now.state.served c.args.self.now.state.tally)
     (moment (scene c.serve_to_tick.new.gateway (g.L.OctetSink.held c.serve_to_tick.new.log) (g.W.Wire.calls c.serve_to_tick.new.wire))
@@ -221,7 +223,7 @@ returns-in-Ok-clause-more g c = λ some.
 
 pub returns-in-Ok-Withheld-clause-advances : goal.returns-in-Ok-Withheld-clause-advances
 returns-in-Ok-Withheld-clause-advances g c = λ config is_config.
-    let end = ends_as g.K.Guard.Passes c.args.turns
+    let end = ends_as g.K.Guard.Passes c.args.self.now.state.left
     (moment (scene c.args.self.now.gateway (g.L.OctetSink.held c.args.log.now) (g.W.Wire.calls c.args.wire.now)) c.args.self.now.keeper
     c.args.self.now.state.served c.args.self.now.state.tally)
     (moment (scene c.serve_to_tick.new.gateway (g.L.OctetSink.held c.serve_to_tick.new.log) (g.W.Wire.calls c.serve_to_tick.new.wire))
@@ -257,10 +259,10 @@ returns-in-Ok-Withheld-clause-more g c = λ some.
     let new = c.serve_to_tick.new in
     let held = g.L.OctetSink.held in
     let calls = g.W.Wire.calls in
-    more_withheld g.K.Guard.Passes c.args.turns
+    more_withheld g.K.Guard.Passes c.args.self.now.state.left
     (moment (scene old.gateway (held c.args.log.now) (calls c.args.wire.now)) old.keeper old.state.served old.state.tally)
     (moment (scene new.gateway (held new.log) (calls new.wire)) new.guard new.self.served new.self.tally)
-    (ends_as g.K.Guard.Passes c.args.turns
+    (ends_as g.K.Guard.Passes c.args.self.now.state.left
     (moment (scene c.args.self.now.gateway (g.L.OctetSink.held c.args.log.now) (g.W.Wire.calls c.args.wire.now)) c.args.self.now.keeper
     c.args.self.now.state.served c.args.self.now.state.tally)
     (moment (scene c.serve_to_tick.new.gateway (g.L.OctetSink.held c.serve_to_tick.new.log) (g.W.Wire.calls c.serve_to_tick.new.wire))
@@ -273,7 +275,7 @@ returns-in-Err-clause-more g c = λ some.
     let new = c.serve_to_tick.new in
     let held = g.L.OctetSink.held in
     let calls = g.W.Wire.calls in
-    more_faulty g.K.Guard.Passes c.args.turns
+    more_faulty g.K.Guard.Passes c.args.self.now.state.left
     (moment (scene old.gateway (held c.args.log.now) (calls c.args.wire.now)) old.keeper old.state.served old.state.tally)
     (moment (scene new.gateway (held new.log) (calls new.wire)) new.guard new.self.served new.self.tally)
     c.in-Err.fault new.self.unwritten.items c.in-Err.ensures.end

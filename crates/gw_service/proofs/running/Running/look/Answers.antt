@@ -1,4 +1,4 @@
-use Rattle.std.proofs.Common.{ℕ, List, Option, ap, subst, sym}
+use Rattle.std.proofs.Common.{ℕ, List, ap, subst, sym}
 use Rattle.gw_system.specs.Requests.{answered, asked_for, asked_to_say}
 use Rattle.gw_system.proofs.RequestLemmas.{goes_two}
 use Rattle.gw_notices.specs.Notices.{IsStatusAnswer}
@@ -12,14 +12,13 @@ pub returns-in-Some-Status-clause-looked : goal.returns-in-Some-Status-clause-lo
 returns-in-Some-Status-clause-looked g c =
     let old = c.args.self.now in
     let said = g.Q.Requests.recorded in
-    let report_of : Option ℕ → List ℕ = λ lost. all_stats g.K.StateKeeper.unkept g.K.StateKeeper.more (reporting_by c.args.schedule.now)
-    old.keeper old.counts old.announcing lost old.gateway old.state.served old.state.tally in
+    let report = all_stats g.K.StateKeeper.unkept g.K.StateKeeper.more (reporting_by c.args.schedule.now)
+    old.keeper old.counts old.announcing (lost_by (metered old.metrics)) old.gateway old.state.served old.state.tally in
     let asks = asked_so (said old.requests) (said c.take.new.self) c.take.result c.in-Some-Status.field-0 asked_to_say c.in-Some-Status.is
     (ap asked_for c.in-Some-Status.field-0-is) c.take.ensures in
-    let says = says_status (report_of c.lost_of.result) c.status-text.result c.status-text.ensures in
+    let says = says_status report c.status-text.result c.status-text.ensures in
     inquired_so g.K.StateKeeper.Adopts old.origin old.gateway old.keeper (said old.requests) (said c.answer.new.self) c.status_or.result.now old.counts
     old.announcing (g.E.OctetSink.NeverFails c.args.errors.now) (g.E.OctetSink.held c.args.errors.now) g.L.Notes.Takes c.args.log.now
-    (report_of (lost_by (metered old.metrics)))
+    report
     (goes_two (said old.requests) (said c.take.new.self) (said c.answer.new.self) asked_to_say (answered c.status_or.result.now) asks c.answer.ensures)
-    (subst (λ (lost : Option ℕ). IsStatusAnswer (report_of lost) c.status_or.result.now) c.lost_of.ensures
-    (subst (λ (t : List ℕ). IsStatusAnswer (report_of c.lost_of.result) t) (sym c.status_or.ensures) says))
+    (subst (λ (t : List ℕ). IsStatusAnswer report t) (sym c.status_or.ensures) says)

@@ -24,7 +24,7 @@ returns-clause-runs g c = λ config is_config.
     ran_from (manner g.K.Guard.Passes g.K.StateKeeper.Ticks g.K.StateKeeper.Adopts g.K.StateKeeper.troubles
     (due_stats g.K.StateKeeper.unkept g.K.StateKeeper.more how)
     (all_stats g.K.StateKeeper.unkept g.K.StateKeeper.more how) (meters_by how.start) g.K.StateKeeper.Lasts)
-    (end_stats g.K.StateKeeper.unkept g.K.StateKeeper.more how) how.start c.args.turns
+    (end_stats g.K.StateKeeper.unkept g.K.StateKeeper.more how) how.start c.args.self.now.state.left
     (λ (t : Troubles). stage config (moment (scene old.gateway (g.L.OctetSink.held c.args.log.now) (g.W.Wire.calls c.args.wire.now)) old.keeper
     old.state.served old.state.tally) (g.Q.Requests.recorded old.requests) old.counts old.announcing t (metered old.metrics))
     (λ (t : Troubles). stage config (moment (scene old.gateway (g.L.OctetSink.held c.args.log.now) (g.W.Wire.calls c.announce.new.wire)) old.keeper

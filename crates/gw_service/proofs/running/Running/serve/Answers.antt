@@ -1,4 +1,4 @@
-use Rattle.std.proofs.Common.{◌≡◌, ◌+◌, ◌-◌, ◌<◌, Result, Ok, Option, arith, refl, subst}
+use Rattle.std.proofs.Common.{◌<◌, Result, Ok, Option, arith, refl, subst}
 use Rattle.gw_configuration.specs.Configuration.{Configuration}
 use Rattle.gw_script.proofs.Passing.{passes_on}
 use Rattle.gw_turns.specs.Serve.{scene}
@@ -39,9 +39,9 @@ loop-preserved g c =
     let now = c.loop.self in
     let new = c.advance.new.self in
     let kept = c.loop.invariant in
-    let some : 0 < c.loop.left = omega (arith, c.if-left-eq0.false) in
+    let some : 0 < now.state.left = omega (arith, c.if-self-eq0.false) in
     let more : now.state.served.turns < new.state.served.turns = c.in_ok-ended.ensures.more some in
-    let most = c.advance.ensures.most in
+    let counted = c.advance.ensures.left in
     let never = g.E.OctetSink.NeverFails in
     let held = g.E.OctetSink.held in
     let at : Configuration → Stage _ = λ (config : Configuration). stage config
@@ -51,20 +51,18 @@ loop-preserved g c =
     (moment (scene new.gateway (g.L.OctetSink.held c.advance.new.log) (g.W.Wire.calls c.advance.new.wire)) new.keeper
     new.state.served new.state.tally) (g.Q.Requests.recorded new.requests) new.counts new.announcing new.said (metered new.metrics) in
     let left_by = edge (g.W.Wire.behind c.advance.new.wire) (WasLasting g.L.Lasting.IsLasting g.L.OctetSink.held c.advance.new.log)
-    (FailsToLast g.L.Lasting.Syncs c.advance.new.log) new.state.unwritten.items in
-    let left = c.loop.left - (new.state.served.turns - now.state.served.turns) in
-    let counted : new.state.served.turns + left ≡ now.state.served.turns + c.loop.left = omega (arith, more, most) in (
-      omega (arith, more, most, kept.0),
+    (FailsToLast g.L.Lasting.Syncs c.advance.new.log) new.state.unwritten.items in (
+      omega (arith, more, counted, kept.0),
       omega (arith, counted, kept.1),
-      c.advance.ensures.rest left (omega (arith, counted)),
+      c.advance.ensures.rest,
       λ never. c.advance.ensures.lasts (kept.3 never),
-      chained_more how c.loop.left old.origin now.origin new.origin
+      chained_more how now.state.left old.origin now.origin new.origin
           (λ (config : Configuration). stage config (moment (scene old.gateway (g.L.OctetSink.held c.args.log.now) (g.W.Wire.calls c.args.wire.now))
           old.keeper old.state.served old.state.tally) (g.Q.Requests.recorded old.requests) old.counts old.announcing old.said (metered old.metrics))
           at next left_by
           (g.E.OctetSink.NeverFails c.args.errors.now) (g.E.OctetSink.NeverFails c.loop.errors)
           (g.E.OctetSink.held c.args.errors.now) (g.E.OctetSink.held c.loop.errors) (g.E.OctetSink.held c.advance.new.errors)
-          kept.4 (subst (λ (ending : Option End). Advanced how c.loop.left now.origin at (Ok ending) new.origin next left_by (never c.loop.errors)
+          kept.4 (subst (λ (ending : Option End). Advanced how now.state.left now.origin at (Ok ending) new.origin next left_by (never c.loop.errors)
           (held c.loop.errors) (held c.advance.new.errors)) c.in-None.is c.in_ok-ended.ensures.advances) kept.3,
     )
 
@@ -87,9 +85,9 @@ returns-in_err-ended-clause-runs g c =
     let last : Configuration → Stage _ = λ (config : Configuration). stage config
     (moment (scene new.gateway (g.L.OctetSink.held c.advance.new.log) (g.W.Wire.calls c.advance.new.wire)) new.keeper new.state.served
     new.state.tally) (g.Q.Requests.recorded new.requests) new.counts new.announcing new.said (metered new.metrics) in
-    passes_on (λ (r : Result End ServeFault). Ran how c.args.turns old.origin first r new.origin last (never c.args.errors.now)
+    passes_on (λ (r : Result End ServeFault). Ran how c.args.self.now.state.left old.origin first r new.origin last (never c.args.errors.now)
     (held c.args.errors.now) (held c.advance.new.errors)) fault c.from_residual.result c.from_residual.ensures
-    (ran_until how c.args.turns c.loop.left old.origin now.origin new.origin first
+    (ran_until how c.args.self.now.state.left now.state.left old.origin now.origin new.origin first
     (λ (config : Configuration). stage config (moment (scene now.gateway (g.L.OctetSink.held c.loop.log) (g.W.Wire.calls c.loop.wire))
     now.keeper now.state.served now.state.tally) (g.Q.Requests.recorded now.requests) now.counts now.announcing now.said (metered now.metrics))
     last fault (edge (g.W.Wire.behind c.advance.new.wire) (WasLasting g.L.Lasting.IsLasting g.L.OctetSink.held c.advance.new.log)
@@ -120,7 +118,7 @@ returns-in-Some-clause-runs g c =
     new.state.served new.state.tally) (g.Q.Requests.recorded new.requests) new.counts new.announcing new.said (metered new.metrics) in
     let left_by = edge (g.W.Wire.behind c.advance.new.wire) (WasLasting g.L.Lasting.IsLasting g.L.OctetSink.held c.advance.new.log)
     (FailsToLast g.L.Lasting.Syncs c.advance.new.log) new.state.unwritten.items in
-    ran_ended how c.args.turns c.loop.left old.origin now.origin new.origin first at next left_by
+    ran_ended how c.args.self.now.state.left now.state.left old.origin now.origin new.origin first at next left_by
     (never c.args.errors.now) (never c.loop.errors) (held c.args.errors.now) (held c.loop.errors) (held c.advance.new.errors) c.in-Some.end
-    kept.4 (subst (λ (ending : Option End). Advanced how c.loop.left now.origin at (Ok ending) new.origin next left_by (never c.loop.errors)
+    kept.4 (subst (λ (ending : Option End). Advanced how now.state.left now.origin at (Ok ending) new.origin next left_by (never c.loop.errors)
     (held c.loop.errors) (held c.advance.new.errors)) c.in-Some.is c.in_ok-ended.ensures.advances) kept.3 (λ a b. kept.1)

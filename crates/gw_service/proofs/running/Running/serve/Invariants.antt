@@ -12,9 +12,9 @@ use Rattle.gw_service.proofs.running.Running.serve.Given as goal
 -- What the loop keeps: a chain leads to where it is, and what isn't served is left.
 abbrev pub invariant-loop : goal.invariant-loop
 invariant-loop g l =
-    (l.left + l.counter ≤ l.turns)
-    × (l.self.state.served.turns + l.left ≡ l.fn.self.state.served.turns + l.turns)
-    × CanCount l.self.state.served l.self.state.tally (g.W.Wire.failure_count l.wire) l.left
+    (l.self.state.left + l.counter ≤ l.fn.self.state.left)
+    × (l.self.state.served.turns + l.self.state.left ≡ l.fn.self.state.served.turns + l.fn.self.state.left)
+    × CanCount l.self.state.served l.self.state.tally (g.W.Wire.failure_count l.wire) l.self.state.left
     × (g.E.OctetSink.NeverFails l.fn.errors → g.E.OctetSink.NeverFails l.errors)
     × Chained (manner g.K.Guard.Passes g.K.StateKeeper.Ticks g.K.StateKeeper.Adopts g.K.StateKeeper.troubles
     (due_stats g.K.StateKeeper.unkept g.K.StateKeeper.more (reporting_by l.fn.schedule))

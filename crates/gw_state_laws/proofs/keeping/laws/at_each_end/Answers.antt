@@ -1,14 +1,8 @@
-use Rattle.gw_state_laws.proofs.keeping_lemmas.Runs.{runs_end_current, runs_keep_last, watched_runs_end_current, watched_runs_keep_last}
+use Rattle.gw_state_laws.proofs.keeping_lemmas.Runs.{runs_end_current, runs_keep_last}
 use Rattle.gw_state_laws.proofs.keeping.laws.at_each_end.Goals as goal
 
 pub returns-clause-ended : goal.returns-clause-ended
 returns-clause-ended g c = runs_end_current
 
-pub returns-clause-watched : goal.returns-clause-watched
-returns-clause-watched g c = watched_runs_end_current
-
 pub returns-clause-last : goal.returns-clause-last
 returns-clause-last g c = λ given. runs_keep_last given
-
-pub returns-clause-watched_last : goal.returns-clause-watched_last
-returns-clause-watched_last g c = λ given. watched_runs_keep_last given

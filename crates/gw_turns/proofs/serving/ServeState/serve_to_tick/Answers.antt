@@ -15,6 +15,7 @@ loop-init g c =
     record {
       end = stretch_none g.G.Guard.Passes start;
       turns = omega arith;
+      left = omega arith;
       each = c.requires.each;
       calls = c.requires.calls;
       failures = refl;
@@ -33,7 +34,7 @@ returns-in-Err-clause-end g c =
     let turn = c.take_guarded_turn.new in
     let then = moment (scene turn.gateway (held turn.log) (W.calls turn.wire)) turn.guard turn.self.served turn.self.tally in
     let Passes = g.G.Guard.Passes in
-    stretch_faulty Passes c.loop.counter c.args.turns start now then c.in-Err.fault _ c.loop.invariant.end c.loop-test.true c.in-Err.ensures.end
+    stretch_faulty Passes c.loop.counter c.args.self.now.left start now then c.in-Err.fault _ c.loop.invariant.end c.loop-test.true c.in-Err.ensures.end
 
 pub returns-then-not-is_passed-clause-end : goal.returns-then-not-is_passed-clause-end
 returns-then-not-is_passed-clause-end g c =
@@ -46,7 +47,7 @@ returns-then-not-is_passed-clause-end g c =
     let Passes = g.G.Guard.Passes in
     let left = turn.self.unwritten.items in
     let last = subst (λ (b : Bool). GuardedEnd Passes now (Ok b) left then) c.if-not-is_passed.true c.in-Ok.ensures.end in
-    stretch_withheld Passes c.loop.counter c.args.turns start now then left c.loop.invariant.end c.loop-test.true last
+    stretch_withheld Passes c.loop.counter c.args.self.now.left start now then left c.loop.invariant.end c.loop-test.true last
 
 pub returns-then-ticks-counts-clause-end : goal.returns-then-ticks-counts-clause-end
 returns-then-ticks-counts-clause-end g c =
@@ -62,7 +63,7 @@ returns-then-ticks-counts-clause-end g c =
     let step = ticks_step Passes now then left last in
     let rises : turn.gateway.ticks ≡ c.loop.gateway.ticks + 1 =
     omega (arith, step.1, c.counts-ticks.ensures.ticks, c.counts.ensures.ticks, c.if-ticks-counts.true) in
-    stretch_tick Passes c.loop.counter c.args.turns start now then left c.loop.invariant.end c.loop-test.true last rises
+    stretch_tick Passes c.loop.counter c.args.self.now.left start now then left c.loop.invariant.end c.loop-test.true last rises
 
 pub loop-preserved : goal.loop-preserved
 loop-preserved g c =
@@ -83,6 +84,7 @@ loop-preserved g c =
     record {
       end = stretch_more Passes c.loop.counter start now then unwritten so_far.end last stays;
       turns = omega (arith, so_far.turns, this.turns);
+      left = omega (arith, so_far.left, this.left);
       each = this.each;
       calls = omega (arith, so_far.calls, this.turns, this.few);
       failures = omega (arith, so_far.failures, this.failures);

@@ -15,6 +15,7 @@ invariant-loop g l =
           (moment (scene l.fn.gateway (log.held l.fn.log) (wire.calls l.fn.wire)) l.fn.guard was l.fn.self.tally)
           (moment (scene l.gateway (log.held l.log) (wire.calls l.wire)) l.guard is l.self.tally);
       turns : is.turns ≡ was.turns + l.counter;
+      left : l.self.left + l.counter ≡ l.fn.self.left;
       each : is.taken + is.memory_drops + is.recv_failures ≤ is.turns;
       calls : wire_counts is ≤ is.turns * (2 ^ 64 - 1);
       failures : wire.failure_count l.wire + was.recv_failures + was.send_failures

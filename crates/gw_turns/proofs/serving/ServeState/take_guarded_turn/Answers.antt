@@ -5,10 +5,12 @@ use Rattle.gw_script.specs.Event.{event_view}
 use Rattle.gw_core.specs.declared.effects.Effects.{Effects}
 use Rattle.gw_turns.specs.Serve.{empty_turn, failed_turn, lines_of, lost_event, scene}
 use Rattle.gw_turns.specs.ServeTurn.{AreTried, LogEnd}
+use Rattle.gw_turns.specs.Tally.{culprit_of}
 use Rattle.gw_turns.specs.declared.serving.ServeFault.TheVariants.{Log, Memory}
+use Rattle.gw_turns.specs.declared.serving.Served.{Served}
 use Rattle.gw_turns.specs.Stretch.{IsLoggedLast, count_taken}
 use Rattle.gw_turns.proofs.GuardLemmas.{guarded_fault, guarded_with, guarded_without, seen_by}
-use Rattle.gw_turns.proofs.ServeLemmas.{arrives, ends_at_log, ends_at_memory, lead_without, tallied, tried_counted}
+use Rattle.gw_turns.proofs.ServeLemmas.{arrives, below_counted, ends_at_log, ends_at_memory, lead_without, tallied, tried_counted}
 use Rattle.gw_turns.proofs.serving.ServeState.take_guarded_turn.Goals as goal
 
 pub returns-in-Ok-None-clause-end : goal.returns-in-Ok-None-clause-end
@@ -59,7 +61,7 @@ returns-then-not-is_logged-clause-end g c =
     let after = scene c.take_seen.new.gateway (g.L.OctetSink.held c.log_denials.new.log) records in
     let s = c.args.self.now.served in
     let guard = c.args.guard.now in
-    let seen = seen_by c.watches.result (g.G.Guard.watching guard) c.args.gateway.now event _ _ c.watches.ensures c.as_ref.ensures.value
+    let seen = seen_by (g.G.Guard.watching guard) (g.G.Guard.keeps guard) c.args.gateway.now event _ _ c.as_ref.ensures.value
     (c.in-Ok.ensures.seen refl) in
     let ended = subst (λ (b : Bool). LogEnd c.in-Ok.taken.effects.denials before.log after.log (Ok b) c.log_denials.new.unwritten.items)
     c.if-not-is_logged.true c.in-Ok-log_denials.ensures.end in
@@ -85,7 +87,7 @@ returns-then-not-pass-clause-end g c =
     let counted = tallied c.args.gateway.now c.args.self.now.tally c.count.new.self event c.counts-tick.result.ticks c.in-Ok.taken.effects
     c.in-Ok.taken.drop c.counts-tick.ensures.ticks taken.effects taken.drop c.count.ensures in
     let guard = c.args.guard.now in
-    let seen = seen_by c.watches.result (g.G.Guard.watching c.args.guard.now) c.args.gateway.now event _ _ c.watches.ensures c.as_ref-2.ensures.value
+    let seen = seen_by (g.G.Guard.watching guard) (g.G.Guard.keeps guard) c.args.gateway.now event _ _ c.as_ref-2.ensures.value
     (c.in-Ok.ensures.seen refl) in
     let withheld = subst (λ (b : Bool). g.G.Guard.Passes guard c.args.gateway.now event c.pass-2.new.self b) c.if-not-pass.true
     (c.pass-2.ensures c.args.gateway.now event taken seen) in
@@ -108,7 +110,7 @@ returns-clause-end g c =
     let counted = tallied c.args.gateway.now c.args.self.now.tally c.count.new.self event c.counts-tick.result.ticks c.in-Ok.taken.effects
     c.in-Ok.taken.drop c.counts-tick.ensures.ticks taken.effects taken.drop c.count.ensures in
     let guard = c.args.guard.now in
-    let seen = seen_by c.watches.result (g.G.Guard.watching c.args.guard.now) c.args.gateway.now event _ _ c.watches.ensures c.as_ref-2.ensures.value
+    let seen = seen_by (g.G.Guard.watching guard) (g.G.Guard.keeps guard) c.args.gateway.now event _ _ c.as_ref-2.ensures.value
     (c.in-Ok.ensures.seen refl) in
     let passes = subst (λ (b : Bool). g.G.Guard.Passes guard c.args.gateway.now event c.pass-2.new.self b) c.if-not-pass.false
     (c.pass-2.ensures c.args.gateway.now event taken seen) in
@@ -119,6 +121,13 @@ returns-clause-end g c =
     c.try_sends.new.served (failures c.receive.new.wire) (failures c.try_sends.new.wire)) c.ticks_with-self.ensures c.try_sends.ensures.tried in
     guarded_with g.G.Guard.Passes guard c.pass-2.new.self before middle sends was c.try_sends.new.served c.args.self.now.tally c.count.new.self _ _ event
     c.in-Ok.taken taken logged counted passes tried c.log_denials.new.unwritten.items
+
+pub returns-clause-below : goal.returns-clause-below
+returns-clause-below g c =
+    let was = c.args.self.now.served in
+    below_counted was.taken c.try_sends.new.served.taken c.args.self.now.tally c.count.new.self
+    (culprit_of c.counts-tick.result.ticks (event_view c.in-Ok-Some.event)) c.in-Ok.taken.drop c.in-Ok.taken.effects.denials
+    (ap (λ (x : Served). x.taken) c.try_sends.ensures.tried.counts) c.count.ensures c.requires.below
 
 pub returns-clause-few : goal.returns-clause-few
 returns-clause-few g c = omega (arith, tried_counted _ _ _ _ _ _ _ c.try_sends.ensures.tried, c.try_sends.ensures.few)

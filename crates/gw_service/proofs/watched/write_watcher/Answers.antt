@@ -5,7 +5,7 @@ use Rattle.gw_notices.proofs.AppendLemmas.{two_writes}
 use Rattle.gw_notices.specs.Watch.{counts_text, watch_text}
 use Rattle.gw_notices.specs.declared.watch_report.WatchCounts.{WatchCounts}
 use Rattle.gw_service.specs.Watch.{counted_of}
-use Rattle.gw_service.proofs.watched.BothWatcherKeptStateKeeper.write_more.Goals as goal
+use Rattle.gw_service.proofs.watched.write_watcher.Goals as goal
 
 pub returns-clause-ok : goal.returns-clause-ok
 returns-clause-ok g c =
@@ -13,7 +13,7 @@ returns-clause-ok g c =
     let first = held c.args.errors.now in
     let middle = held c.write_watched.new.errors in
     let last = held c.write_counts_if.new.errors in
-    let watcher = c.args.self.now.first in
+    let watcher = c.args.watcher.now in
     let is_asked = c.args.rules in
     two_writes c.write_counts_if.result first middle last (watch_text (counted_of watcher))
     (if is_asked then counts_text c.args.gateway.now.rules watcher.counts else [])
