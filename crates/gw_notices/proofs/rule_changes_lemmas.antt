@@ -1,1 +1,1 @@
-mod SameRules
+pub mod SameRules

@@ -1,5 +1,5 @@
 -- Two rules that `same_rule` takes for one are equal, and the converse.
-use Rattle.std.proofs.Common.{◌≡◌, ◌∙◌, ◌↔◌, refl, sym, ap₂, true≢false, ℕ, Bool, true, false, nat_eq, List, [], ◌∷◌}
+use Rattle.std.proofs.Common.{◌≡◌, ◌∙◌, ◌↔◌, refl, sym, subst, ap₂, true≢false, ℕ, Bool, true, false, nat_eq, List, [], ◌∷◌}
 use Rattle.std.specs.Prelude.{IsTrue}
 use Rattle.std.specs.Cmp.{nat_eq_equiv}
 use Rattle.std.specs.Cmp.Lexicographic.{pointwise, same_text}
@@ -80,4 +80,4 @@ same_if_equal is a b exact =
     (λ same. exact.1 (equal_rule a b same))
   where
     by : a ≡ b → same_rule a b ≡ true
-    by refl = own_rule a
+    by same = subst (λ (r : Rule). same_rule a r ≡ true) same (own_rule a)

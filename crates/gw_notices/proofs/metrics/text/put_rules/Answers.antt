@@ -18,8 +18,9 @@ loop-place-preserved c =
     let inside : c.loop-place.place + 1 < length c.args.counts.now = omega (arith, c.loop-place-test.true, c.requires) in
     let then : c.put_counted.new.out.items ≡ now ++ text (c.loop-place.place + 1) rule =
     c.in_ok-put_counted.ensures
-    ∙ ap (λ (name : List ℕ). now ++ full_line (Count family.Decisions (labelled label.Rule name c.count.result))) c.as_str.ensures.text
-    ∙ ap (λ (n : ℕ). now ++ full_line (Count family.Decisions (labelled label.Rule rule.name n))) (c.count.ensures inside) in
+    ∙ ap (λ (name : List ℕ). now ++ full_line (Count family.Decisions (labelled label.Rule name c.count-count.result))) c.as_str-name.ensures.text
+    ∙ ap (λ (r : Rule). now ++ full_line (Count family.Decisions (labelled label.Rule r.name c.count-count.result))) here
+    ∙ ap (λ (n : ℕ). now ++ full_line (Count family.Decisions (labelled label.Rule rule.name n))) (c.count-count.ensures inside) in
     in_order_step text c.args.out.now.items c.loop-place.out.items c.put_counted.new.out.items c.args.rules.now c.loop-place.place rule
     c.loop-place-test.true c.loop-place.invariant
     (subst (λ (r : Rule). c.put_counted.new.out.items ≡ c.loop-place.out.items ++ text (c.loop-place.place + 1) r) (sym here) then)
