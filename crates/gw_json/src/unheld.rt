@@ -9,8 +9,9 @@ ghost use Rattle.gw_json.specs.internal.View.{members_view, value_view, values_v
 
 use crate::ask::{key_or_null, operation_value};
 use crate::value::{Member, Value, number_value, object_line, push_value, text_value};
-use crate::why::{item_at, name_value};
+use crate::why::name_value;
 use gw_ask_sets::assertions::Judged;
+use gw_ask_sets::numbered::item_at;
 use gw_configuration::{Assertion, Config};
 use gw_rules::{Ask, Rule};
 use std::alloc::{AllocError, Global};

@@ -1,7 +1,6 @@
 //! Which rule would decide the asks of a text: a JSON object for each line.
 
-ghost use Rattle.std.specs.Prelude.{◌≡◌, ◌+◌, ◌-◌, ◌*◌, ◌<◌, ℕ, List, Some, length, option_map, slice_get, IfOk, IsErrOf};
-ghost use Rattle.std.specs.Option.{option_and_then};
+ghost use Rattle.std.specs.Prelude.{◌≡◌, ◌+◌, ◌*◌, ◌<◌, ℕ, List, Some, length, option_map, IfOk, IsErrOf};
 ghost use Rattle.gw_script.specs.Known.{OnKnown};
 ghost use Rattle.gw_json.specs.Document.{line_of};
 ghost use Rattle.gw_json.specs.Why.{IsAnswerIn, LeavesVerdicts, SaysNoAsk, answer_value, beside_members, name_value, note_value, noted_value, place_members, quiet_members, verdict_members};
@@ -9,6 +8,7 @@ ghost use Rattle.gw_json.specs.internal.View.{members_view, value_view};
 
 use crate::ask::ask_members;
 use crate::value::{Member, Value, joined, number_value, object_line, text_value};
+use gw_ask_sets::numbered::item_at;
 use gw_audit::{ShownAsk, read_ask};
 use gw_configuration::{Config, Text};
 use gw_policy_review::places::{line_of, table_of};
@@ -170,16 +170,6 @@ fn verdict_members(
         ("rule_number", number_value(number_of(by))),
         ("note", note),
     ]?)
-}
-
-/// The item of a number, which counts from 1.
-pub(crate) fn item_at<T>(items: &[T], by: Option<u16>) -> Option<&T>
-    ensures { option_map (λ item. item.now) result ≡ option_and_then (λ n. slice_get items.now (n - 1)) by }
-{
-    match by {
-        Some(number) => items.get(usize::from(number).saturating_sub(1)),
-        None => None,
-    }
 }
 
 fn number_of(by: Option<u16>) -> Option<u64>

@@ -10,7 +10,7 @@ use crate::reading::configured::summary;
 use crate::reading::printing::print_ending;
 use gw_ask_sets::ask_text::put_ask;
 use gw_ask_sets::assertions::Judged;
-use gw_ask_sets::shapes::rule_at;
+use gw_ask_sets::numbered::item_at;
 use gw_configuration::{Assertion, Config};
 use gw_rules::RuleList;
 use itoa::Buffer;
@@ -59,7 +59,7 @@ fn put_decider(out: &mut Vec<u8>, rules: &RuleList, by: Option<u16>) -> Result<(
     let Some(number) = by else {
         return out.extend_from_slice(b"default");
     };
-    match rule_at(rules, number) {
+    match item_at(rules.rules(), Some(number)) {
         Some(rule) => out.extend_from_slice(rule.name.as_str().as_bytes()),
         None => Ok(()),
     }
