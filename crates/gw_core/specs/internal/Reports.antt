@@ -6,7 +6,8 @@ use Rattle.gw_core.specs.Seen.{seen_of}
 use Rattle.gw_core.specs.Receive.{Origin}
 
 -- nothing is seen of no ask, whoever it is of
-pub nothing_from : (keeps : Verdict → Bool) (from : Option Origin) → seen_of keeps (asked_of from []) ≡ seen_of keeps (asked_of None [])
+pub nothing_from : (keeps : Verdict → Bool) (from : Option Origin)
+    → seen_of keeps (asked_of from []) ≡ seen_of keeps (asked_of None [])
 nothing_from keeps None = refl
 nothing_from keeps (Some from) = refl
 
