@@ -23,8 +23,9 @@
 # An answer of a hand-written proof that misfits a slip is left out, and the check run again, so that the search meets the goal. Beside
 # it the function as it is gets a copy whose proof lacks the same answers. For each slip a line says what refused it:
 #
-#     clause   a goal that doesn't hold; where answers were left out, one that the function as it is meets without them
-#     goal     a goal that the function as it is doesn't meet without those answers either; its name follows
+#     clause   a goal that doesn't hold; where answers were left out, one of a clause that the function as it is meets at each of its
+#              exits without them
+#     goal     a goal of a clause that the function as it is doesn't meet without those answers either; its name follows
 #     proof    only the text of a hand-written proof, which says less
 #     case     what a program of cases prints, of a slip that gives up as a want of memory would, which every contract allows. Its file
 #              names that program in a line `case: CRATE`; the program is tried unproved
@@ -448,18 +449,31 @@ def restore(name, crate):
 
 
 def judged(said, path):
-    """What the check says of a function and its closures: how it is refused, or that it is proved, or nothing; and the goals left."""
+    """What the check says of a function and its closures: how it is refused, or that it is proved, or nothing; and what is left, the
+    goals for one that is refused by a clause."""
     name = path.rpartition("::")[2]
     lines = re.findall(rf"^fn \w+::{re.escape(path)}(?:::\S*)?: (.*)$", said, re.MULTILINE)
     open_lines = [line for line in lines if line != "proved"]
     if not open_lines:
-        return ("proved" if lines else "nothing"), ""
+        return ("proved" if lines else "nothing"), []
     unmet = [re.findall(r"`([^`]+)`", line.partition("did not prove")[2]) for line in open_lines]
     goals = [goal for them in unmet for goal in them]
     goals += re.findall(rf"^note: `([^`]+)` of proofs/\S*\b{re.escape(name)}/\S+ must prove", said, re.MULTILINE)
     if goals:
-        return "clause", ", ".join(sorted(set(goals))[:4])
-    return "proof", open_lines[0][:160]
+        return "clause", sorted(set(goals))
+    return "proof", [open_lines[0][:160]]
+
+
+def clauses_of(goals):
+    """The clauses that these goals are of, at whichever exit of the function, and the other goals as they are."""
+    ends = re.compile(r"returns\b(?:.*-clause-(\w+)(?:-\d+)?$)?")
+    return {("clause", found[1] or "") if found else ("goal", goal) for goal in goals for found in [ends.match(goal)]}
+
+
+def is_met_else(said, path, goals):
+    """Whether a check of the function as it is meets a clause, at each of its exits, that one of these goals is of, or such a goal."""
+    verdict, left = judged(said, path)
+    return verdict == "proved" or verdict == "clause" and not clauses_of(goals) <= clauses_of(left)
 
 
 def short(said):
@@ -569,9 +583,9 @@ class Trial:
         if judged(said, home.path())[0] != "proved":
             self.tell(copy.slip, "NOT TRIED", f"{home.path()} isn't proved itself")
             return
-        if verdict == "clause" and copy.left_out and judged(said, copy.control().path())[0] != "proved":
+        if verdict == "clause" and copy.left_out and not is_met_else(said, copy.control().path(), goals):
             verdict = "goal"
-        self.tell(copy.slip, verdict, f"{home.owner + '::' if home.owner else ''}{home.name}: {goals}")
+        self.tell(copy.slip, verdict, f"{home.owner + '::' if home.owner else ''}{home.name}: {', '.join(goals[:4])}")
 
     def is_proved(self, paths):
         """Whether the crate as it is is proved, as far as a check of these paths goes."""
@@ -625,9 +639,9 @@ class Trial:
             restore(self.name, self.crate)
             self.drop(left_out)
             _, said = self.check(paths)
-            verdict = "clause" if judged(said, path)[0] == "proved" else "goal"
+            verdict = "clause" if is_met_else(said, path, goals) else "goal"
         more = f", and {len(left) - 1} more" if len(left) > 1 else ""
-        self.tell(slip, verdict, f"{path}: {goals}{more}")
+        self.tell(slip, verdict, f"{path}: {', '.join(goals[:4])}{more}")
         return True
 
     def try_cases(self, slip):

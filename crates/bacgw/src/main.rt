@@ -4,7 +4,7 @@
 //! `run` says what the program does.
 #![tactic(auto)]
 
-use gw_shell::{Fault, SystemFiles, SystemHost, end, run};
+use gw_shell::{Fault, Streams, SystemFiles, SystemHost, end, run};
 use std::fs::File;
 use std::io::BufWriter;
 use std::process::ExitCode;
@@ -38,16 +38,19 @@ fn main(rt: HostRuntime) -> ExitCode {
     let _held = [open_null(&rt), open_null(&rt), open_null(&rt)];
     let alloc = rt.alloc();
     let mut errors = rt.stderr();
-    let Ok(mut output) = BufWriter::with_capacity(alloc, OUTPUT_OCTETS, io::writer(&rt)) else {
+    let Ok(output) = BufWriter::with_capacity(alloc, OUTPUT_OCTETS, io::writer(&rt)) else {
         return end("bacgw", Err(Fault::Memory), &mut errors);
+    };
+    let mut streams = Streams {
+        input: rt.reader(),
+        output,
+        errors,
     };
     run(
         alloc,
         words(&rt),
         &SystemFiles { rt: &rt },
         &mut SystemHost { rt: &rt },
-        &mut rt.reader(),
-        &mut output,
-        &mut errors,
+        &mut streams,
     )
 }

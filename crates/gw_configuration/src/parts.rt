@@ -9,7 +9,7 @@ ghost use Rattle.gw_rules.specs.RuleList.{has_no_quiet, keeps_counts as has_shor
 ghost use Rattle.gw_configuration.specs.Configuration.{Configuration, are_counted, are_named, are_places, has_long_fields, is_assertable, is_by, is_configurable, is_managed, is_named, is_plain, is_plain_port, keeps_assertions, keeps_limits, keeps_rules, policing_of};
 
 use crate::assertion::MAX_ASSERTIONS;
-use crate::{Assertion, Device, Object, Policing, Port, Route, Set, Text, TopValues};
+use crate::{Assertion, Device, Networks, Object, Policing, Port, Route, Set, Text, TopValues};
 use gw_addr::{MAX_PORTS, Sequence};
 use gw_rules::{
     FieldName, Fields, Format, MAX_LONG_RANGES, MAX_RANGES, MAX_RULES, Range, Ranges, Rule,
@@ -91,8 +91,7 @@ impl Parts {
     pub fn new(
         top: TopValues,
         device: Device,
-        ports: Sequence<Port>,
-        routes: Sequence<Route>,
+        networks: Networks,
         objects: Sequence<Object>,
         policy: Policing,
     ) -> Option<Self>
@@ -100,8 +99,8 @@ impl Parts {
           format = top.format;
           announce = top.announce;
           device = device;
-          ports = ports;
-          routes = routes;
+          ports = networks.ports;
+          routes = networks.routes;
           objects = objects;
           rules = policy.rules;
           tables = policy.tables;
@@ -112,6 +111,7 @@ impl Parts {
           assertions = policy.assertions;
         } in result ≡ (if keeps_limits parts then Some parts else None) }
     {
+        let Networks { ports, routes } = networks;
         let few = !ports.is_empty()
             && ports.len() <= MAX_PORTS
             && routes.len() <= MAX_ROUTES

@@ -3,6 +3,7 @@
 ghost use Rattle.std.specs.Prelude.{◌≡◌, ◌∷◌, ◌++◌, [], Bool, List, OnErr, OnOk};
 ghost use Rattle.gw_rules.specs.Asker.{verdicts_of};
 ghost use Rattle.gw_rules.specs.Keeping.{both_verdicts_kept, no_verdict_kept};
+ghost use Rattle.gw_rules.specs.RuleList.{is_quiet_by};
 ghost use Rattle.gw_rules.specs.declared.verdict.Verdict.{Verdict};
 ghost use Rattle.gw_core.specs.internal.Sieved.{IsSieved, sieved_on};
 
@@ -52,19 +53,6 @@ impl Sieved {
     }
 }
 
-/// An ask, with the number of the rule that decides it, if one does, whether it is allowed, and whether that rule is quiet.
-#[inline(always)]
-fn whole(ask: &Ask, by: Option<u16>, is_allowed: bool, is_quiet: bool) -> Verdict
-    ensures { result ≡ record { ask = ask.now; is_allowed = is_allowed; by = by; is_quiet = is_quiet } }
-{
-    Verdict {
-        ask: *ask,
-        is_allowed,
-        by,
-        is_quiet,
-    }
-}
-
 /// Puts asks to the policy of a gateway one by one, for a guard. It keeps the refusals, by which rule each ask was decided, and
 /// whole only those verdicts that the guard wants to see whole.
 ///
@@ -107,6 +95,24 @@ impl<'a, G: Guard> Sieve<'a, G> {
         }
     }
 
+    /// The verdict on an ask that the rule of this number decides, or none.
+    #[inline(always)]
+    fn verdict(&self, ask: &Ask, by: Option<u16>, is_allowed: bool) -> Verdict
+        ensures { result ≡ record {
+          ask = ask.now;
+          is_allowed = is_allowed;
+          by = by;
+          is_quiet = is_quiet_by self.now.policy by;
+        } }
+    {
+        Verdict {
+            ask: *ask,
+            is_allowed,
+            by,
+            is_quiet: self.policy.is_quiet(by),
+        }
+    }
+
     /// What it kept.
     #[inline(always)]
     pub(crate) fn into_sieved(self) -> Sieved
@@ -131,15 +137,15 @@ impl<G: Guard> Asker for Sieve<'_, G> {
 
     fn authorize(&mut self, ask: &Ask) -> Result<bool, AllocError> {
         let (by, is_allowed) = self.policy.verdict(ask);
-        let is_quiet = self.policy.is_quiet(by);
         let is_kept = self.guard.keeps(ask, by, is_allowed);
-        if is_kept || !(is_allowed || is_quiet) {
-            let verdict = whole(ask, by, is_allowed, is_quiet);
+        if is_kept || !is_allowed {
+            let verdict = self.verdict(ask, by, is_allowed);
             self.sieved.add(&verdict, is_kept)?;
         } else {
             self.sieved.deciders.push(by)?;
         }
-        self.heard.add(&[whole(ask, by, is_allowed, is_quiet)]);
+        let heard = self.verdict(ask, by, is_allowed);
+        self.heard.add(&[heard]);
         Ok(is_allowed)
     }
 

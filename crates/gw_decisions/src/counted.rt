@@ -3,6 +3,7 @@
 ghost use Rattle.std.specs.Prelude.{◌≡◌, List, map};
 ghost use Rattle.gw_core.specs.declared.asked.Asked.{Asked};
 ghost use Rattle.gw_decisions.specs.Counted.{AreCounted, AreCountedBy};
+ghost use Rattle.gw_decisions.specs.tally.Tally.{place_of};
 
 use crate::tally::Tally;
 use gw_core::SeenAsks;
@@ -14,11 +15,31 @@ pub fn count_asked(tally: &mut Tally, asked: &SeenAsks)
     count_deciders(tally, asked.deciders());
 }
 
-/// Counts the asks that these rules decided, each by its number, or no rule.
+/// Where an ask is counted that the rule of this number decided, or none.
+fn place_by(by: Option<u16>) -> usize
+    ensures { result ≡ place_of by }
+{
+    match by {
+        Some(rule) => usize::from(rule),
+        None => 0,
+    }
+}
+
+/// Counts the asks that these rules decided, each by its number, or no rule. Those of one rule that follow one another are
+/// counted at once.
 fn count_deciders(tally: &mut Tally, deciders: &[Option<u16>])
     ensures { AreCountedBy tally.old deciders.now tally.new }
 {
+    let mut place = 0;
+    let mut asks = 0;
     for by in deciders {
-        tally.count_decided(*by);
+        let next = place_by(*by);
+        if next != place {
+            tally.count_decided(place, asks);
+            place = next;
+            asks = 0;
+        }
+        asks += 1;
     }
+    tally.count_decided(place, asks);
 }

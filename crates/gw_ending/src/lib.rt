@@ -7,6 +7,8 @@
 mod ending;
 mod fault;
 pub mod reading;
+mod streams;
 
 pub use ending::{end, report_fault, write_number};
 pub use fault::{Fault, MigrationFlaw, words_of};
+pub use streams::Streams;

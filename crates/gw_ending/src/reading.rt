@@ -8,8 +8,8 @@ mod files;
 mod places;
 mod printing;
 
-pub use assertions::{do_hold, judged_text, print_judged, put_unheld};
+pub use assertions::{do_hold, judged_text, print_judged, put_unheld, said_of_judged};
 pub use configured::{configuration, configuration_in, configuration_of, summary};
 pub use files::{ConfigFiles, SystemFiles};
 pub use places::report_place;
-pub use printing::{fault_note, print, print_ending, print_made};
+pub use printing::{Said, fault_note, print, print_ending, print_made, print_said};

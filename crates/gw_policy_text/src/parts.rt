@@ -17,8 +17,8 @@ use crate::reading::{at, list_at, optional_boolean};
 use crate::{device, objects, port, route};
 use gw_addr::{MAX_PORTS, Sequence};
 use gw_configuration::{
-    ConfigFault, Device, Format, Located, MAX_OBJECTS, MAX_ROUTES, Object, Parts, Port, Route,
-    TopValues,
+    ConfigFault, Device, Format, Located, MAX_OBJECTS, MAX_ROUTES, Networks, Object, Parts, Port,
+    Route, TopValues,
 };
 use std::alloc::Global;
 use toml::Table;
@@ -41,7 +41,8 @@ fn parts_of_format<'a>(alloc: Global, format: Format, top: &'a Table) -> Result<
     let objects = objects_at(alloc, top)?;
     let policy = policy_at(alloc, format, top)?;
     let values = TopValues { format, announce };
-    Ok(Parts::new(values, device, ports, routes, objects, policy).ok_or(ConfigFault::Range)?)
+    let networks = Networks { ports, routes };
+    Ok(Parts::new(values, device, networks, objects, policy).ok_or(ConfigFault::Range)?)
 }
 
 /// Whether networks are announced, in format 3.

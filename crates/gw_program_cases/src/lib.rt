@@ -6,5 +6,5 @@ mod runs;
 mod words;
 
 pub use files::{MemFiles, UNREADABLE};
-pub use runs::{Left, Program, RunStreams, Section, put_fronts, put_left, put_lines};
+pub use runs::{Left, MemStreams, Program, Section, put_fronts, put_left, put_lines};
 pub use words::{call, put, put_faults, put_file, put_flag, status_text};

@@ -7,7 +7,7 @@ ghost use Rattle.std.specs.Prelude.{◌≡◌, [], IfOk};
 
 use crate::words::{call, put, status_text};
 use gw_cases::{MemSink, MemSource, MemWriter, number_behind};
-use gw_ending::Fault;
+use gw_ending::{Fault, Streams};
 use itoa::Buffer;
 use std::alloc::{AllocError, Global};
 use std::io;
@@ -89,10 +89,10 @@ impl<'a> Section<'a> {
     }
 
     /// The standard streams, the output with room for so many octets after its buffer.
-    pub fn streams(&self, alloc: Global, room: usize) -> Result<RunStreams<'a>, AllocError>
+    pub fn streams(&self, alloc: Global, room: usize) -> Result<MemStreams<'a>, AllocError>
         ensures { IfOk result (λ streams. streams.errors.written.octets ≡ []) }
     {
-        Ok(RunStreams {
+        Ok(Streams {
             input: self.reader(),
             output: self.output(alloc, room)?,
             errors: self.errors(alloc)?,
@@ -106,28 +106,7 @@ impl<'a> Section<'a> {
 }
 
 /// The standard streams of a run.
-#[derive(Drop)]
-pub struct RunStreams<'a> {
-    pub input: MemSource<'a>,
-    pub output: BufWriter<MemWriter>,
-    pub errors: MemSink,
-}
-
-impl RunStreams<'_> {
-    /// What a run leaves that ended with this status.
-    pub fn left(self, code: ExitCode) -> Left
-        ensures errors { result.errors ≡ self.entry.errors }
-        ensures code { result.code ≡ code }
-    {
-        let RunStreams { output, errors, .. } = self;
-        let (output, _unwritten) = output.into_parts();
-        Left {
-            code,
-            output,
-            errors,
-        }
-    }
-}
+pub type MemStreams<'a> = Streams<MemSource<'a>, MemWriter, MemSink>;
 
 /// What a run leaves: its exit status and both streams.
 #[derive(Drop)]
@@ -135,6 +114,22 @@ pub struct Left {
     pub code: ExitCode,
     pub output: MemWriter,
     pub errors: MemSink,
+}
+
+impl Left {
+    /// What a run on these streams leaves that ended with this status.
+    pub fn new(code: ExitCode, streams: MemStreams<'_>) -> Left
+        ensures errors { result.errors ≡ streams.entry.errors }
+        ensures code { result.code ≡ code }
+    {
+        let Streams { output, errors, .. } = streams;
+        let (output, _unwritten) = output.into_parts();
+        Left {
+            code,
+            output,
+            errors,
+        }
+    }
 }
 
 /// A program on a machine in memory.

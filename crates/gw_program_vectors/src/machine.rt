@@ -18,7 +18,7 @@ use gw_cases::MemWriter;
 use gw_configuration::Port;
 use gw_log_words::{Calendar, Moment, moment_after};
 use gw_program_cases::{
-    Left, MemFiles, Program, RunStreams, Section, UNREADABLE, put, put_left, put_lines,
+    Left, MemFiles, MemStreams, Program, Section, UNREADABLE, put, put_left, put_lines,
 };
 use gw_script::append_send;
 use gw_shell::{FailedStep, Fault, Host, LogFailure, Obstacle, Reason, SocketFailure, Step, run};
@@ -602,7 +602,7 @@ fn run_on(
     words: Result<Vec<String>, Fault>,
     text: &str,
     host: &mut MemHost<'_>,
-    streams: &mut RunStreams<'_>,
+    streams: &mut MemStreams<'_>,
 ) -> ExitCode
     ensures { streams.old.errors.room ≡ None → (written : List ℕ)
         × (streams.new.errors.written.octets ≡ streams.old.errors.written.octets ++ written)
@@ -612,15 +612,7 @@ fn run_on(
         (λ f. choice ≡ Err f)) written (exit_status result) }
 {
     let files = MemFiles { text };
-    run(
-        alloc,
-        words,
-        &files,
-        host,
-        &mut streams.input,
-        &mut streams.output,
-        &mut streams.errors,
-    )
+    run(alloc, words, &files, host, streams)
 }
 
 /// Runs the program of a section, whose output has room for so many octets.
@@ -670,7 +662,7 @@ fn run_with(
     let mut streams = section.streams(alloc, room)?;
     let code = run_on(alloc, words, config, &mut host, &mut streams);
     Ok(Served {
-        left: streams.left(code),
+        left: Left::new(code, streams),
         closed: host.closed,
         opened: taken_from(alloc, &opened),
         answers: taken_from(alloc, &answers),

@@ -13,8 +13,8 @@ ghost use Rattle.gw_shell.specs.Replay.{Plays};
 
 use crate::replaying::replay;
 use gw_configuration::Config;
-use gw_ending::Fault;
 use gw_ending::reading::{ConfigFiles, configuration, configuration_of};
+use gw_ending::{Fault, Streams};
 use gw_notices::write_note;
 use gw_policy_text::SETTING;
 use gw_replay::count_script;
@@ -219,18 +219,24 @@ fn play_counting<R: OctetSource, W: Write + Drop, E: OctetSink>(
     alloc: Global,
     explains: bool,
     text: &Result<Vec<u8>, Fault>,
-    input: &mut R,
-    output: &mut BufWriter<W>,
-    errors: &mut E,
+    streams: &mut Streams<R, W, E>,
 ) -> Result<(), Fault>
-    ensures counted { (said : List ℕ) × LeavesCounted explains (result_map (λ octets. octets.items) text.now)
-        (R.left input.old) (writer_contents W.contents output.old) (writer_contents W.contents output.new) result said
-        × (E.NeverFails errors.old → Appends (E.held errors.old) (E.held errors.new) said) }
-    ensures lasting { E.NeverFails errors.old → E.NeverFails errors.new }
-    ensures flush { OnOk result (writer_buffer output.new ≡ []) }
+    ensures counted { let was = streams.old in
+        let is = streams.new in
+        (said : List ℕ) × LeavesCounted explains (result_map (λ octets. octets.items) text.now)
+        (R.left was.input) (writer_contents W.contents was.output) (writer_contents W.contents is.output) result said
+        × (E.NeverFails was.errors → Appends (E.held was.errors) (E.held is.errors) said) }
+    ensures lasting { E.NeverFails streams.old.errors → E.NeverFails streams.new.errors }
+    ensures flush { OnOk result (writer_buffer streams.new.output ≡ []) }
 {
-    let counted = replay_counting(alloc, explains, text, input, output);
-    write_note(counted.decisions.as_bytes(), errors);
+    let counted = replay_counting(
+        alloc,
+        explains,
+        text,
+        &mut streams.input,
+        &mut streams.output,
+    );
+    write_note(counted.decisions.as_bytes(), &mut streams.errors);
     counted.outcome
 }
 
@@ -249,22 +255,28 @@ pub fn play_in<F: ConfigFiles, R: OctetSource, W: Write + Drop, E: OctetSink>(
     files: &F,
     file: &Option<String>,
     how: Playing,
-    input: &mut R,
-    output: &mut BufWriter<W>,
-    errors: &mut E,
+    streams: &mut Streams<R, W, E>,
 ) -> Result<(), Fault>
-    ensures played { (said : List ℕ) × LeavesPlayedIn (F.Reads files.now) (option_map string_bytes file.now) how
-        (R.left input.old) (writer_contents W.contents output.old) (writer_contents W.contents output.new) said result
-        × (E.NeverFails errors.old → Appends (E.held errors.old) (E.held errors.new) said) }
-    ensures lasting { E.NeverFails errors.old → E.NeverFails errors.new }
-    ensures flush { OnOk result (writer_buffer output.new ≡ []) }
+    ensures played { let was = streams.old in
+        let is = streams.new in
+        (said : List ℕ) × LeavesPlayedIn (F.Reads files.now) (option_map string_bytes file.now) how
+        (R.left was.input) (writer_contents W.contents was.output) (writer_contents W.contents is.output) said result
+        × (E.NeverFails was.errors → Appends (E.held was.errors) (E.held is.errors) said) }
+    ensures lasting { E.NeverFails streams.old.errors → E.NeverFails streams.new.errors }
+    ensures flush { OnOk result (writer_buffer streams.new.output ≡ []) }
 {
     let Playing { explains, counts } = how;
     if counts {
         let text = text_for(alloc, files, file);
-        play_counting(alloc, explains, &text, input, output, errors)
+        play_counting(alloc, explains, &text, streams)
     } else {
         let config = configuration(alloc, files, file);
-        play(alloc, explains, config, input, output)
+        play(
+            alloc,
+            explains,
+            config,
+            &mut streams.input,
+            &mut streams.output,
+        )
     }
 }

@@ -15,7 +15,7 @@ pub use gw_command_line::options::WordsFault;
 pub use gw_command_line::{Choice, choice_of};
 pub use gw_configuration::RunOptions;
 pub use gw_ending::reading::{ConfigFiles, SystemFiles};
-pub use gw_ending::{Fault, end, words_of};
+pub use gw_ending::{Fault, Streams, end, words_of};
 pub use gw_system::{
     FailedStep, Host, LogFailure, Obstacle, OpenFailure, PollWaiter, Reason, SocketFailure, Step,
     SystemClock, SystemHost, UdpSock,

@@ -20,10 +20,10 @@ use crate::serving::fault_of_service;
 use gw_ask_sets::assertions::{JUDGING_STEPS, judge};
 use gw_command_line::{Choice, choice_of};
 use gw_configuration::{Config, RunOptions};
-use gw_ending::Fault;
 use gw_ending::reading::{
     ConfigFiles, configuration_of, fault_note, judged_text, print, print_judged,
 };
+use gw_ending::{Fault, Streams};
 use gw_notices::write_note;
 use gw_script::{OctetSink, OctetSource};
 use gw_service::{Edition, Order, ServiceFault, serve_run};
@@ -109,32 +109,34 @@ fn edition_of(alloc: Global, text: &Result<Vec<u8>, Fault>) -> Result<Edition, F
 }
 
 /// Serves the ports of the configuration of a text that was read.
-fn serve<H: Host, W: Write + Drop, E: OctetSink>(
+fn serve<H: Host, R, W: Write + Drop, E: OctetSink>(
     alloc: Global,
     text: &Result<Vec<u8>, Fault>,
     options: &RunOptions,
     host: &mut H,
-    output: &mut BufWriter<W>,
-    errors: &mut E,
+    streams: &mut Streams<R, W, E>,
 ) -> Result<(), Fault>
-    ensures served { (said : List ℕ) × (edition : Result SpecEdition Fault)
+    ensures served { let was = streams.old in
+        let is = streams.new in
+        (said : List ℕ) × (edition : Result SpecEdition Fault)
         × IsEditionOf (result_map (λ octets. octets.items) text.now) edition
         × LeavesRun (timed_machine {C = H.Calendar}
         (whole_machine (machine (OpensAtLine (H.LogOpens host.old) (H.LogIsCut host.old) H.Log.held)
         (H.SocketsOpen host.old) (H.RoutesIp host.old) (H.Closes host.new) H.Log.held H.Sockets.calls)
         (state_machine (H.FileReads host.old) (H.LastDenials host.old) (H.StoreOpens host.old)
         (H.ReloadsOpen host.old) H.StateStore.held H.Reloads.recorded) (H.Waits host.old)))
-        (writer_contents W.contents output.old) (writer_contents W.contents output.new) options.now
+        (writer_contents W.contents was.output) (writer_contents W.contents is.output) options.now
         edition said result
-        × (E.NeverFails errors.old → Appends (E.held errors.old) (E.held errors.new) said) }
-    ensures lasting { E.NeverFails errors.old → E.NeverFails errors.new }
+        × (E.NeverFails was.errors → Appends (E.held was.errors) (E.held is.errors) said) }
+    ensures lasting { E.NeverFails streams.old.errors → E.NeverFails streams.new.errors }
     ensures flush { OnOk result (IsFlushedFor (option_map string_bytes options.now.log)
-        (writer_buffer output.old) (writer_buffer output.new)) }
+        (writer_buffer streams.old.output) (writer_buffer streams.new.output)) }
 {
     match edition_of(alloc, text) {
         Ok(edition) => {
             let order = Order { edition, options };
-            served(serve_run(alloc, order, host, output, errors))
+            let done = serve_run(alloc, order, host, &mut streams.output, &mut streams.errors);
+            served(done)
         }
         Err(fault) => Err(fault),
     }
@@ -146,28 +148,28 @@ fn follow<F: ConfigFiles, H: Host, R: OctetSource, W: Write + Drop, E: OctetSink
     choice: &Result<Choice, Fault>,
     files: &F,
     host: &mut H,
-    input: &mut R,
-    output: &mut BufWriter<W>,
-    errors: &mut E,
+    streams: &mut Streams<R, W, E>,
 ) -> Result<(), Fault>
-    ensures followed { IsFollowed
+    ensures followed { let was = streams.old in
+        let is = streams.new in
+        IsFollowed
         (LeavesOutput (F.Reads files.now)
         (timed_machine {C = H.Calendar}
         (whole_machine (machine (OpensAtLine (H.LogOpens host.old) (H.LogIsCut host.old) H.Log.held)
         (H.SocketsOpen host.old) (H.RoutesIp host.old) (H.Closes host.new) H.Log.held H.Sockets.calls)
         (state_machine (H.FileReads host.old) (H.LastDenials host.old) (H.StoreOpens host.old)
-        (H.ReloadsOpen host.old) H.StateStore.held H.Reloads.recorded) (H.Waits host.old))) (R.left input.old)
-        (writer_contents W.contents output.old) (writer_contents W.contents output.new))
-        (λ said. E.NeverFails errors.old → Appends (E.held errors.old) (E.held errors.new) said)
+        (H.ReloadsOpen host.old) H.StateStore.held H.Reloads.recorded) (H.Waits host.old))) (R.left was.input)
+        (writer_contents W.contents was.output) (writer_contents W.contents is.output))
+        (λ said. E.NeverFails was.errors → Appends (E.held was.errors) (E.held is.errors) said)
         choice.now result }
-    ensures lasting { E.NeverFails errors.old → E.NeverFails errors.new }
+    ensures lasting { E.NeverFails streams.old.errors → E.NeverFails streams.new.errors }
     ensures flush { OnOk result
-        (IsFlushed choice.now (writer_buffer output.old) (writer_buffer output.new)) }
+        (IsFlushed choice.now (writer_buffer streams.old.output) (writer_buffer streams.new.output)) }
 {
     match choice {
         Ok(Choice::Check(file)) => {
             let text = files.read(alloc, file);
-            check(alloc, &text, output)
+            check(alloc, &text, &mut streams.output)
         }
         Ok(
             Choice::Replay {
@@ -180,33 +182,33 @@ fn follow<F: ConfigFiles, H: Host, R: OctetSource, W: Write + Drop, E: OctetSink
                 explains: *explains,
                 counts: *counts,
             };
-            play_in(alloc, files, file, how, input, output, errors)
+            play_in(alloc, files, file, how, streams)
         }
         Ok(Choice::Run(options)) => {
             let text = files.read(alloc, &options.config);
-            serve(alloc, &text, options, host, output, errors)
+            serve(alloc, &text, options, host, streams)
         }
-        Ok(Choice::Help(text)) => print(text.as_bytes(), output),
+        Ok(Choice::Help(text)) => print(text.as_bytes(), &mut streams.output),
         Ok(Choice::Usage(_)) => Err(Fault::CommandLine),
         Err(fault) => Err(*fault),
     }
 }
 
 /// Runs the program on these words, or on the fault for which there are none: the configuration that they name is read from
-/// `files`, what it has is printed to `output`, or the script of `input` is replayed there, or what `host` opens is served,
-/// or help is printed; what is served, or where a fault is, may be reported on `errors`, a fault is one line there, after
-/// words that are no command line it says how the program is called, and the exit status says of which kind the fault is. The
-/// words begin with the program's name.
+/// `files`, what it has is printed to standard output, or the script of standard input is replayed there, or what `host` opens is
+/// served, or help is printed; what is served, or where a fault is, may be reported on standard error, a fault is one line there,
+/// after words that are no command line it says how the program is called, and the exit status says of which kind the fault is.
+/// The words begin with the program's name.
 pub fn run<F: ConfigFiles, H: Host, R: OctetSource, W: Write + Drop, E: OctetSink>(
     alloc: Global,
     words: Result<Vec<String>, Fault>,
     files: &F,
     host: &mut H,
-    input: &mut R,
-    output: &mut BufWriter<W>,
-    errors: &mut E,
+    streams: &mut Streams<R, W, E>,
 ) -> ExitCode
-    ensures run { IsRun (F.Reads files.now)
+    ensures run { let was = streams.old in
+        let is = streams.new in
+        IsRun (F.Reads files.now)
         (λ choice. MatchResult words
         (λ w. IsChoiceOf (map string_bytes w.items) choice)
         (λ f. choice ≡ Err f))
@@ -215,16 +217,16 @@ pub fn run<F: ConfigFiles, H: Host, R: OctetSource, W: Write + Drop, E: OctetSin
         (whole_machine (machine (OpensAtLine (H.LogOpens host.old) (H.LogIsCut host.old) H.Log.held)
         (H.SocketsOpen host.old) (H.RoutesIp host.old) (H.Closes host.new) H.Log.held H.Sockets.calls)
         (state_machine (H.FileReads host.old) (H.LastDenials host.old) (H.StoreOpens host.old)
-        (H.ReloadsOpen host.old) H.StateStore.held H.Reloads.recorded) (H.Waits host.old))) (R.left input.old)
-        (writer_contents W.contents output.old) (writer_contents W.contents output.new))
-        (writer_buffer output.old) (writer_buffer output.new)
-        (λ line. E.NeverFails errors.old → Appends (E.held errors.old) (E.held errors.new) line)
+        (H.ReloadsOpen host.old) H.StateStore.held H.Reloads.recorded) (H.Waits host.old))) (R.left was.input)
+        (writer_contents W.contents was.output) (writer_contents W.contents is.output))
+        (writer_buffer was.output) (writer_buffer is.output)
+        (λ line. E.NeverFails was.errors → Appends (E.held was.errors) (E.held is.errors) line)
         (exit_status result) }
 {
     let choice = choice_from(alloc, words);
-    let outcome = follow(alloc, &choice, files, host, input, output, errors);
-    report_place_by(alloc, files, &choice, outcome, errors);
-    let exit = end_by(&choice, outcome, errors);
-    write_note(usage_of(&choice), errors);
+    let outcome = follow(alloc, &choice, files, host, streams);
+    report_place_by(alloc, files, &choice, outcome, &mut streams.errors);
+    let exit = end_by(&choice, outcome, &mut streams.errors);
+    write_note(usage_of(&choice), &mut streams.errors);
     exit
 }

@@ -6,7 +6,7 @@ use gw_cases::{MemSource, edited};
 use gw_ending::Fault;
 use gw_ending::reading::ConfigFiles;
 use gw_log_words::{Calendar, Moment, moment_after};
-use gw_program_cases::{Left, MemFiles, Program, RunStreams, Section, put_left};
+use gw_program_cases::{Left, MemFiles, MemStreams, Program, Section, put_left};
 use gw_system::ReadFailure;
 use gw_tools::{Machine, run};
 use gw_wire::StoreFault;
@@ -182,17 +182,9 @@ fn run_on(
     words: Result<Vec<String>, Fault>,
     files: &ToolFiles<'_>,
     machine: &MemMachine,
-    streams: &mut RunStreams<'_>,
+    streams: &mut MemStreams<'_>,
 ) -> ExitCode {
-    run(
-        alloc,
-        words,
-        files,
-        machine,
-        &mut streams.input,
-        &mut streams.output,
-        &mut streams.errors,
-    )
+    run(alloc, words, files, machine, streams)
 }
 
 /// The program on a machine in memory.
@@ -222,7 +214,7 @@ impl Program for Bacgwctl {
             was: config,
         };
         let code = run_on(alloc, words, &files, &machine, &mut streams);
-        Ok(streams.left(code))
+        Ok(Left::new(code, streams))
     }
 }
 

@@ -14,8 +14,8 @@ use crate::lines::first_lines_fault;
 use crate::placed::{Placed, placed_in};
 use crate::unread::report_unread;
 use gw_decisions::tally::{Tally, count_asks, put_tally};
-use gw_ending::Fault;
 use gw_ending::reading::{ConfigFiles, print_made};
+use gw_ending::{Fault, Streams};
 use gw_rules::RuleList;
 use gw_script::{OctetSink, OctetSource};
 use gw_verdicts::asks::{AskLines, Lent};
@@ -104,20 +104,20 @@ fn answer_shown<R: OctetSource, W: Write + Drop, E: OctetSink>(
     alloc: Global,
     counts: bool,
     placed: Result<Placed, Fault>,
-    input: &mut R,
-    output: &mut BufWriter<W>,
-    errors: &mut E,
+    streams: &mut Streams<R, W, E>,
 ) -> Result<(), Fault>
-    ensures shown { (said : List ℕ) × LeavesAnswered counts (asks_in false (R.left input.old))
-        (writer_contents W.contents output.old) (writer_contents W.contents output.new) placed result
+    ensures shown { let was = streams.old in
+        let is = streams.new in
+        (said : List ℕ) × LeavesAnswered counts (asks_in false (R.left was.input))
+        (writer_contents W.contents was.output) (writer_contents W.contents is.output) placed result
         × ReportsUnread false result said
-        × (E.NeverFails errors.old → Appends (E.held errors.old) (E.held errors.new) said) }
-    ensures lasting { E.NeverFails errors.old → E.NeverFails errors.new }
-    ensures flush { OnOk result (writer_buffer output.new ≡ []) }
+        × (E.NeverFails was.errors → Appends (E.held was.errors) (E.held is.errors) said) }
+    ensures lasting { E.NeverFails streams.old.errors → E.NeverFails streams.new.errors }
+    ensures flush { OnOk result (writer_buffer streams.new.output ≡ []) }
 {
-    let mut asks = AskLines::new(Lent::new(input));
-    let outcome = answer(alloc, counts, placed, &mut asks, output);
-    report_unread(outcome, asks.unread(), errors);
+    let mut asks = AskLines::new(Lent::new(&mut streams.input));
+    let outcome = answer(alloc, counts, placed, &mut asks, &mut streams.output);
+    report_unread(outcome, asks.unread(), &mut streams.errors);
     outcome
 }
 
@@ -136,21 +136,27 @@ pub fn answer_in<F: ConfigFiles, R: OctetSource, W: Write + Drop, E: OctetSink>(
     files: &F,
     file: &str,
     how: Answering,
-    input: &mut R,
-    output: &mut BufWriter<W>,
-    errors: &mut E,
+    streams: &mut Streams<R, W, E>,
 ) -> Result<(), Fault>
-    ensures answered { (said : List ℕ) × LeavesAnsweredIn (F.Reads files.now) file.now how (R.left input.old)
-        (writer_contents W.contents output.old) (writer_contents W.contents output.new) said result
-        × (E.NeverFails errors.old → Appends (E.held errors.old) (E.held errors.new) said) }
-    ensures lasting { E.NeverFails errors.old → E.NeverFails errors.new }
-    ensures flush { OnOk result (writer_buffer output.new ≡ []) }
+    ensures answered { let was = streams.old in
+        let is = streams.new in
+        (said : List ℕ) × LeavesAnsweredIn (F.Reads files.now) file.now how (R.left was.input)
+        (writer_contents W.contents was.output) (writer_contents W.contents is.output) said result
+        × (E.NeverFails was.errors → Appends (E.held was.errors) (E.held is.errors) said) }
+    ensures lasting { E.NeverFails streams.old.errors → E.NeverFails streams.new.errors }
+    ensures flush { OnOk result (writer_buffer streams.new.output ≡ []) }
 {
     let Answering { counts, strict } = how;
     let placed = placed_in(alloc, files, file);
     if strict {
-        answer(alloc, counts, placed, input, output)
+        answer(
+            alloc,
+            counts,
+            placed,
+            &mut streams.input,
+            &mut streams.output,
+        )
     } else {
-        answer_shown(alloc, counts, placed, input, output, errors)
+        answer_shown(alloc, counts, placed, streams)
     }
 }

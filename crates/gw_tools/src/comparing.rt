@@ -12,7 +12,7 @@ use crate::asserting::put_assertions;
 use crate::placed::Placed;
 use gw_configuration::Config;
 use gw_ending::reading::print;
-use gw_ending::{Fault, write_number};
+use gw_ending::{Fault, Streams, write_number};
 use gw_log_words::{Calendar, Moment};
 use gw_policy_review::comparison::{Compared, Comparing, Printing, put_steps};
 use gw_script::{OctetSink, WriteFailed};
@@ -39,6 +39,13 @@ pub struct Limits {
 pub struct Lines {
     pub text: Vec<u8>,
     pub made: Compared,
+}
+
+/// Two configurations, each with the lines of its text on which the tables of its rules begin.
+#[derive(Drop)]
+pub struct Sides<'a> {
+    pub old: &'a Placed,
+    pub new: &'a Placed,
 }
 
 /// Two configurations that were read, each with the lines of its text on which the tables of its rules begin, or why one wasn't.
@@ -198,23 +205,23 @@ fn lines_of(
 fn compared<C: Calendar, E: OctetSink>(
     alloc: Global,
     limits: Limits,
-    old: &Placed,
-    new: &Placed,
+    sides: &Sides<'_>,
     seconds: &mut Seconds<C>,
     errors: &mut E,
 ) -> Result<Lines, AllocError>
-    ensures compared { IfOk result (λ lines. IsCompared limits old.now new.now lines.made lines.text.items) }
-    ensures said { (said : List ℕ) × AreProgress old.now.config new.now.config said
+    ensures compared { IfOk result (λ lines.
+        IsCompared limits sides.now.old.now sides.now.new.now lines.made lines.text.items) }
+    ensures said { (said : List ℕ) × AreProgress sides.now.old.now.config sides.now.new.now.config said
         × (E.NeverFails errors.old → Appends (E.held errors.old) (E.held errors.new) said) }
     ensures lasts { E.NeverFails errors.old → E.NeverFails errors.new }
 {
-    let comparing = finished(alloc, &old.config, &new.config, seconds, errors)?;
+    let comparing = finished(alloc, &sides.old.config, &sides.new.config, seconds, errors)?;
     let mut front = Vec::new(alloc);
-    put_assertions(alloc, &mut front, &old.config, &new.config)?;
+    put_assertions(alloc, &mut front, &sides.old.config, &sides.new.config)?;
     let how = Printing {
         most: limits.most as usize,
-        old_lines: &old.lines,
-        new_lines: &new.lines,
+        old_lines: &sides.old.lines,
+        new_lines: &sides.new.lines,
     };
     lines_of(alloc, limits.steps, how, front, comparing)
 }
@@ -245,46 +252,53 @@ pub fn print_lines<W: Write + Drop>(
 }
 
 /// Prints what the rules of two configurations decide otherwise.
-pub fn print_compared<C: Calendar, W: Write + Drop, E: OctetSink>(
+pub fn print_compared<C: Calendar, R, W: Write + Drop, E: OctetSink>(
     alloc: Global,
     limits: Limits,
-    old: &Placed,
-    new: &Placed,
+    sides: &Sides<'_>,
     seconds: &mut Seconds<C>,
-    output: &mut BufWriter<W>,
-    errors: &mut E,
+    streams: &mut Streams<R, W, E>,
 ) -> Result<(), Fault>
-    ensures output { let held = writer_contents W.contents output.old in
-        let holds = writer_contents W.contents output.new in
-        LeavesCompared limits held holds old.now new.now result }
-    ensures said { (said : List ℕ) × AreProgress old.now.config new.now.config said
-        × (E.NeverFails errors.old → Appends (E.held errors.old) (E.held errors.new) said) }
-    ensures lasts { E.NeverFails errors.old → E.NeverFails errors.new }
-    ensures flush { OnOk result (writer_buffer output.new ≡ []) }
+    ensures output { let held = writer_contents W.contents streams.old.output in
+        let holds = writer_contents W.contents streams.new.output in
+        LeavesCompared limits held holds sides.now.old.now sides.now.new.now result }
+    ensures said { let was = streams.old in
+        let is = streams.new in
+        (said : List ℕ) × AreProgress sides.now.old.now.config sides.now.new.now.config said
+        × (E.NeverFails was.errors → Appends (E.held was.errors) (E.held is.errors) said) }
+    ensures lasts { E.NeverFails streams.old.errors → E.NeverFails streams.new.errors }
+    ensures flush { OnOk result (writer_buffer streams.new.output ≡ []) }
 {
-    let lines = compared(alloc, limits, old, new, seconds, errors);
-    print_lines(lines, output)
+    let lines = compared(alloc, limits, sides, seconds, &mut streams.errors);
+    print_lines(lines, &mut streams.output)
 }
 
 /// Compares the two configurations that were read.
-pub fn compare<C: Calendar, W: Write + Drop, E: OctetSink>(
+pub fn compare<C: Calendar, R, W: Write + Drop, E: OctetSink>(
     alloc: Global,
     limits: Limits,
     both: Both,
     seconds: &mut Seconds<C>,
-    output: &mut BufWriter<W>,
-    errors: &mut E,
+    streams: &mut Streams<R, W, E>,
 ) -> Result<(), Fault>
-    ensures output { LeavesComparison limits (writer_contents W.contents output.old)
-        (writer_contents W.contents output.new) both.old both.new result }
-    ensures said { (said : List ℕ) × ReportsProgress both.old both.new said
-        × (E.NeverFails errors.old → Appends (E.held errors.old) (E.held errors.new) said) }
-    ensures lasts { E.NeverFails errors.old → E.NeverFails errors.new }
-    ensures flush { OnOk result (writer_buffer output.new ≡ []) }
+    ensures output { LeavesComparison limits (writer_contents W.contents streams.old.output)
+        (writer_contents W.contents streams.new.output) both.old both.new result }
+    ensures said { let was = streams.old in
+        let is = streams.new in
+        (said : List ℕ) × ReportsProgress both.old both.new said
+        × (E.NeverFails was.errors → Appends (E.held was.errors) (E.held is.errors) said) }
+    ensures lasts { E.NeverFails streams.old.errors → E.NeverFails streams.new.errors }
+    ensures flush { OnOk result (writer_buffer streams.new.output ≡ []) }
 {
     let old = both.old?;
     match both.new {
-        Ok(new) => print_compared(alloc, limits, &old, &new, seconds, output, errors),
+        Ok(new) => {
+            let sides = Sides {
+                old: &old,
+                new: &new,
+            };
+            print_compared(alloc, limits, &sides, seconds, streams)
+        }
         Err(fault) => Err(fault.of_other()),
     }
 }

@@ -27,7 +27,7 @@ mod unread;
 
 pub use gw_command_line::options::WordsFault;
 pub use gw_ending::reading::{ConfigFiles, SystemFiles};
-pub use gw_ending::{Fault, end};
+pub use gw_ending::{Fault, Streams, end};
 pub use gw_system::{Obstacle, SystemHost};
 pub use gw_tool_line::{Choice, DeedWords, Shown, SiteWords, choice_of};
 pub use machine::{HostMachine, Machine};

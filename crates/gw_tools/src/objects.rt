@@ -12,8 +12,8 @@ ghost use Rattle.gw_tools.specs.Program.{LeavesOfLog, LeavesOpened};
 use crate::lines::first_lines_fault;
 use crate::placed::{Placed, placed_in};
 use crate::unread::report_unread;
-use gw_ending::Fault;
 use gw_ending::reading::ConfigFiles;
+use gw_ending::{Fault, Streams};
 use gw_json::{log_in_json, why_in_json};
 use gw_script::{OctetSink, OctetSource};
 use gw_verdicts::asks::{AskLines, Lent};
@@ -124,20 +124,20 @@ fn judge_shown<F: ConfigFiles, R: OctetSource, W: Write + Drop, E: OctetSink>(
     alloc: Global,
     files: &F,
     file: &str,
-    input: &mut R,
-    output: &mut BufWriter<W>,
-    errors: &mut E,
+    streams: &mut Streams<R, W, E>,
 ) -> Result<(), Fault>
-    ensures shown { (said : List ℕ) × LeavesJudgedIn (F.Reads files.now) file.now (asks_in false (R.left input.old))
-        (writer_contents W.contents output.old) (writer_contents W.contents output.new) result
+    ensures shown { let was = streams.old in
+        let is = streams.new in
+        (said : List ℕ) × LeavesJudgedIn (F.Reads files.now) file.now (asks_in false (R.left was.input))
+        (writer_contents W.contents was.output) (writer_contents W.contents is.output) result
         × ReportsUnread false result said
-        × (E.NeverFails errors.old → Appends (E.held errors.old) (E.held errors.new) said) }
-    ensures lasting { E.NeverFails errors.old → E.NeverFails errors.new }
-    ensures flush { OnOk result (writer_buffer output.new ≡ []) }
+        × (E.NeverFails was.errors → Appends (E.held was.errors) (E.held is.errors) said) }
+    ensures lasting { E.NeverFails streams.old.errors → E.NeverFails streams.new.errors }
+    ensures flush { OnOk result (writer_buffer streams.new.output ≡ []) }
 {
-    let mut asks = AskLines::new(Lent::new(input));
-    let outcome = judge_strictly(alloc, files, file, &mut asks, output);
-    report_unread(outcome, asks.unread(), errors);
+    let mut asks = AskLines::new(Lent::new(&mut streams.input));
+    let outcome = judge_strictly(alloc, files, file, &mut asks, &mut streams.output);
+    report_unread(outcome, asks.unread(), &mut streams.errors);
     outcome
 }
 
@@ -147,20 +147,20 @@ pub fn judge_in<F: ConfigFiles, R: OctetSource, W: Write + Drop, E: OctetSink>(
     files: &F,
     file: &str,
     strict: bool,
-    input: &mut R,
-    output: &mut BufWriter<W>,
-    errors: &mut E,
+    streams: &mut Streams<R, W, E>,
 ) -> Result<(), Fault>
-    ensures judged { (said : List ℕ) × LeavesJudgedIn (F.Reads files.now) file.now (asks_in strict (R.left input.old))
-        (writer_contents W.contents output.old) (writer_contents W.contents output.new) result
+    ensures judged { let was = streams.old in
+        let is = streams.new in
+        (said : List ℕ) × LeavesJudgedIn (F.Reads files.now) file.now (asks_in strict (R.left was.input))
+        (writer_contents W.contents was.output) (writer_contents W.contents is.output) result
         × ReportsUnread strict result said
-        × (E.NeverFails errors.old → Appends (E.held errors.old) (E.held errors.new) said) }
-    ensures lasting { E.NeverFails errors.old → E.NeverFails errors.new }
-    ensures flush { OnOk result (writer_buffer output.new ≡ []) }
+        × (E.NeverFails was.errors → Appends (E.held was.errors) (E.held is.errors) said) }
+    ensures lasting { E.NeverFails streams.old.errors → E.NeverFails streams.new.errors }
+    ensures flush { OnOk result (writer_buffer streams.new.output ≡ []) }
 {
     if strict {
-        judge_strictly(alloc, files, file, input, output)
+        judge_strictly(alloc, files, file, &mut streams.input, &mut streams.output)
     } else {
-        judge_shown(alloc, files, file, input, output, errors)
+        judge_shown(alloc, files, file, streams)
     }
 }

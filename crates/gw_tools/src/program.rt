@@ -33,7 +33,7 @@ use gw_configuration::Config;
 use gw_ending::reading::{
     ConfigFiles, configuration_in, configuration_of, fault_note, print, print_judged, print_made,
 };
-use gw_ending::{Fault, MigrationFlaw};
+use gw_ending::{Fault, MigrationFlaw, Streams};
 use gw_notices::write_note;
 use gw_policy_drafts::listing::{ListingFault, list_rules};
 use gw_policy_drafts::migration::{MigrationFault, migrate};
@@ -260,18 +260,18 @@ fn follow<F: ConfigFiles, M: Machine, R: OctetSource, W: Write + Drop, E: OctetS
     choice: &Result<Choice, Fault>,
     files: &F,
     machine: &M,
-    input: &mut R,
-    output: &mut BufWriter<W>,
-    errors: &mut E,
+    streams: &mut Streams<R, W, E>,
 ) -> Result<(), Fault>
-    ensures followed { IsFollowed
+    ensures followed { let was = streams.old in
+        let is = streams.new in
+        IsFollowed
         (LeavesOutput (F.Reads files.now) (F.ReadsState files.now) (F.ReadsLog files.now) (answers_by (M.Asks machine.now) M.Answers)
-        (R.left input.old)
-        (writer_contents W.contents output.old) (writer_contents W.contents output.new))
-        (λ said. E.NeverFails errors.old → Appends (E.held errors.old) (E.held errors.new) said)
+        (R.left was.input)
+        (writer_contents W.contents was.output) (writer_contents W.contents is.output))
+        (λ said. E.NeverFails was.errors → Appends (E.held was.errors) (E.held is.errors) said)
         choice.now result }
-    ensures lasting { E.NeverFails errors.old → E.NeverFails errors.new }
-    ensures flush { OnOk result (writer_buffer output.new ≡ []) }
+    ensures lasting { E.NeverFails streams.old.errors → E.NeverFails streams.new.errors }
+    ensures flush { OnOk result (writer_buffer streams.new.output ≡ []) }
 {
     match choice {
         Ok(
@@ -282,15 +282,15 @@ fn follow<F: ConfigFiles, M: Machine, R: OctetSource, W: Write + Drop, E: OctetS
             },
         ) => {
             let text = files.read(alloc, file);
-            check(alloc, *explains, *lints, &text, output)
+            check(alloc, *explains, *lints, &text, &mut streams.output)
         }
         Ok(Choice::CheckJson(file)) => {
             let text = files.read(alloc, file);
-            check_in_json(alloc, &text, output)
+            check_in_json(alloc, &text, &mut streams.output)
         }
         Ok(Choice::Migrate(file)) => {
             let config = configuration_in(alloc, files, file);
-            print_in_format_three(alloc, config, output)
+            print_in_format_three(alloc, config, &mut streams.output)
         }
         Ok(
             Choice::Why {
@@ -303,7 +303,7 @@ fn follow<F: ConfigFiles, M: Machine, R: OctetSource, W: Write + Drop, E: OctetS
                 counts: *counts,
                 strict: *strict,
             };
-            answer_in(alloc, files, file, how, input, output, errors)
+            answer_in(alloc, files, file, how, streams)
         }
         Ok(
             Choice::Reload {
@@ -317,10 +317,22 @@ fn follow<F: ConfigFiles, M: Machine, R: OctetSource, W: Write + Drop, E: OctetS
                 request,
                 was,
             };
-            reload_in(alloc, files, &asking, machine, output, errors)
+            reload_in(alloc, files, &asking, machine, streams)
         }
-        Ok(Choice::Stop { request, waits }) => stop(alloc, request, *waits, machine, output),
-        Ok(Choice::Status { request, waits }) => status(alloc, request, *waits, machine, output),
+        Ok(Choice::Stop { request, waits }) => stop(
+            alloc,
+            request,
+            *waits,
+            machine,
+            &mut streams.output,
+        ),
+        Ok(Choice::Status { request, waits }) => status(
+            alloc,
+            request,
+            *waits,
+            machine,
+            &mut streams.output,
+        ),
         Ok(
             Choice::Compare {
                 old,
@@ -338,41 +350,65 @@ fn follow<F: ConfigFiles, M: Machine, R: OctetSource, W: Write + Drop, E: OctetS
                 steps: *steps,
             };
             let mut seconds = Seconds::new(machine.calendar());
-            compare(alloc, limits, both, &mut seconds, output, errors)
+            compare(alloc, limits, both, &mut seconds, streams)
         }
         Ok(Choice::CompareJson { old, new, most }) => {
             let before = configuration_in(alloc, files, old);
             let after = configuration_in(alloc, files, new);
-            compare_in_json(alloc, *most, before, after, output)
+            compare_in_json(alloc, *most, before, after, &mut streams.output)
         }
         Ok(Choice::Points(file)) => {
             let config = configuration_in(alloc, files, file);
-            print_points(alloc, config, output)
+            print_points(alloc, config, &mut streams.output)
         }
         Ok(Choice::Rules(file)) => {
             let placed = placed_in(alloc, files, file);
-            print_rules(alloc, placed, output)
+            print_rules(alloc, placed, &mut streams.output)
         }
-        Ok(Choice::State { config, state }) => print_state_in(alloc, files, config, state, output),
+        Ok(Choice::State { config, state }) => print_state_in(
+            alloc,
+            files,
+            config,
+            state,
+            &mut streams.output,
+        ),
         Ok(Choice::Suggest { file, fills, exact }) => {
             let manner = Manner {
                 keeps_services: *exact,
                 fills: *fills,
             };
-            suggest_shown(alloc, files, file, manner, input, output, errors)
+            suggest_shown(alloc, files, file, manner, streams)
         }
         Ok(Choice::Log { file, start }) => {
             let asked = Translating {
                 file,
                 start: *start,
             };
-            translate_in(alloc, files, &asked, input, output)
+            translate_in(
+                alloc,
+                files,
+                &asked,
+                &mut streams.input,
+                &mut streams.output,
+            )
         }
-        Ok(Choice::Objects(file)) => objects::list_in(alloc, files, file, input, output),
+        Ok(Choice::Objects(file)) => objects::list_in(
+            alloc,
+            files,
+            file,
+            &mut streams.input,
+            &mut streams.output,
+        ),
         Ok(Choice::Judge { file, strict }) => {
-            objects::judge_in(alloc, files, file, *strict, input, output, errors)
+            objects::judge_in(alloc, files, file, *strict, streams)
         }
-        Ok(Choice::Report { file, log }) => print_report_in(alloc, files, file, log, output),
+        Ok(Choice::Report { file, log }) => print_report_in(
+            alloc,
+            files,
+            file,
+            log,
+            &mut streams.output,
+        ),
         Ok(
             Choice::Ask {
                 file,
@@ -387,45 +423,45 @@ fn follow<F: ConfigFiles, M: Machine, R: OctetSource, W: Write + Drop, E: OctetS
                 to,
                 deed,
             };
-            answer_question_in(alloc, files, &asked, output)
+            answer_question_in(alloc, files, &asked, &mut streams.output)
         }
-        Ok(Choice::Init(site)) => begin_site(alloc, site, output, errors),
-        Ok(Choice::Help(text)) => print(text.as_bytes(), output),
+        Ok(Choice::Init(site)) => begin_site(alloc, site, &mut streams.output, &mut streams.errors),
+        Ok(Choice::Help(text)) => print(text.as_bytes(), &mut streams.output),
         Ok(Choice::Usage(_)) => Err(Fault::CommandLine),
         Err(fault) => Err(*fault),
     }
 }
 
 /// Runs the program on these words, or on the fault for which there are none: the configuration that they name is read from
-/// `files`, what is said of it is printed to `output`, or the asks of `input` are answered there, or its log or that of a
-/// file is put into words, or a running gateway is asked through `machine` to read its configuration again, to stop or to say what it counts, or two
-/// configurations are compared, or help is printed; how far a comparison is and how many lines show no ask may be reported on
-/// `errors`, a fault is one line there, after words that are no command line it says how the program is called, and the exit
-/// status says of which kind the fault is. The words begin with the program's name.
+/// `files`, what is said of it is printed to standard output, or the asks of standard input are answered there, or its log or that
+/// of a file is put into words, or a running gateway is asked through `machine` to read its configuration again, to stop or to say
+/// what it counts, or two configurations are compared, or help is printed; how far a comparison is and how many lines show no ask
+/// may be reported on standard error, a fault is one line there, after words that are no command line it says how the program is
+/// called, and the exit status says of which kind the fault is. The words begin with the program's name.
 pub fn run<F: ConfigFiles, M: Machine, R: OctetSource, W: Write + Drop, E: OctetSink>(
     alloc: Global,
     words: Result<Vec<String>, Fault>,
     files: &F,
     machine: &M,
-    input: &mut R,
-    output: &mut BufWriter<W>,
-    errors: &mut E,
+    streams: &mut Streams<R, W, E>,
 ) -> ExitCode
-    ensures run { IsRun (F.Reads files.now)
+    ensures run { let was = streams.old in
+        let is = streams.new in
+        IsRun (F.Reads files.now)
         (λ choice. MatchResult words
         (λ w. IsChoiceOf (map string_bytes w.items) choice)
         (λ f. choice ≡ Err f))
         (LeavesOutput (F.Reads files.now) (F.ReadsState files.now) (F.ReadsLog files.now) (answers_by (M.Asks machine.now) M.Answers)
-        (R.left input.old)
-        (writer_contents W.contents output.old) (writer_contents W.contents output.new))
-        (writer_buffer output.new)
-        (λ line. E.NeverFails errors.old → Appends (E.held errors.old) (E.held errors.new) line)
+        (R.left was.input)
+        (writer_contents W.contents was.output) (writer_contents W.contents is.output))
+        (writer_buffer is.output)
+        (λ line. E.NeverFails was.errors → Appends (E.held was.errors) (E.held is.errors) line)
         (exit_status result) }
 {
     let choice = choice_from(alloc, words);
-    let outcome = follow(alloc, &choice, files, machine, input, output, errors);
-    report_place_by(alloc, files, &choice, outcome, errors);
-    let exit = end_by(&choice, outcome, errors);
-    write_note(usage_of(&choice), errors);
+    let outcome = follow(alloc, &choice, files, machine, streams);
+    report_place_by(alloc, files, &choice, outcome, &mut streams.errors);
+    let exit = end_by(&choice, outcome, &mut streams.errors);
+    write_note(usage_of(&choice), &mut streams.errors);
     exit
 }

@@ -8,15 +8,15 @@ ghost use Rattle.gw_tools.specs.Reloading.{IsAnswerTo, answers_by, octets_or, ou
 ghost use Rattle.gw_ending.specs.Ending.{IsUnanswered};
 ghost use Rattle.gw_ending.specs.reading.Files.{result_map};
 ghost use Rattle.gw_ending.specs.reading.Printing.{LeavesEnding};
-ghost use Rattle.gw_tools.specs.Program.{LeavesAfter, LeavesAnswer, LeavesAsked, LeavesAskedAgain, LeavesHeldTo, LeavesReload, LeavesReloadIn, LeavesReloadOf, LeavesReloadShown, LeavesSound, LeavesStatus, LeavesStopped};
+ghost use Rattle.gw_tools.specs.Program.{LeavesAfter, LeavesAnswer, LeavesAsked, LeavesAskedAgain, LeavesHeldTo, LeavesReload, LeavesReloadIn, LeavesReloadShown, LeavesSound, LeavesStatus, LeavesStopped};
 
-use crate::comparing::{Both, Limits, Seconds, print_compared};
+use crate::comparing::{Both, Limits, Seconds, Sides, print_compared};
 use crate::machine::Machine;
 use crate::placed::{placed_as, placed_in};
 use gw_ask_sets::assertions::{JUDGING_STEPS, judge};
 use gw_configuration::Config;
-use gw_ending::Fault;
 use gw_ending::reading::{ConfigFiles, configuration_of, do_hold, print, print_ending, put_unheld};
+use gw_ending::{Fault, Streams};
 use gw_script::OctetSink;
 use gw_system::{ReadFailure, STATUS_REQUEST, STOP_REQUEST, reload_request};
 use gw_tool_line::Shown;
@@ -187,34 +187,34 @@ fn ask_again<M: Machine, W: Write + Drop>(
 fn reload<M: Machine, W: Write + Drop>(
     alloc: Global,
     config: Result<Config, Fault>,
-    asked: &Reloading<'_>,
-    machine: &M,
+    asked: &Reloading<'_, M>,
     output: &mut BufWriter<W>,
 ) -> Result<(), Fault>
-    ensures output { LeavesReload (answers_by (M.Asks machine.now) M.Answers) asked.now.request.now asked.now.text.now
+    ensures output { LeavesReload (answers_by (M.Asks asked.now.machine.now) M.Answers) asked.now.request.now asked.now.text.now
         (writer_contents W.contents output.old) (writer_contents W.contents output.new) config result }
     ensures flush { OnOk result (writer_buffer output.new ≡ []) }
 {
     let _config = config?;
-    ask_again(alloc, asked.request, asked.text, machine, output)
+    ask_again(alloc, asked.request, asked.text, asked.machine, output)
 }
 
-/// A configuration that is to be read again: the name of the request, and the configuration's text.
+/// A configuration that is to be read again: the name of the request, the configuration's text, and the machine by which the
+/// gateway is asked.
 #[derive(Drop)]
-struct Reloading<'a> {
+struct Reloading<'a, M> {
     request: &'a str,
     text: &'a [u8],
+    machine: &'a M,
 }
 
 /// Asks as [`reload`] does after a comparison that ended so. One that isn't finished, or finds something, is no fault.
 fn ask_after<M: Machine, W: Write + Drop>(
     alloc: Global,
     compared: Result<(), Fault>,
-    asked: &Reloading<'_>,
-    machine: &M,
+    asked: &Reloading<'_, M>,
     output: &mut BufWriter<W>,
 ) -> Result<(), Fault>
-    ensures output { LeavesAfter (answers_by (M.Asks machine.now) M.Answers) asked.now.request.now asked.now.text.now compared
+    ensures output { LeavesAfter (answers_by (M.Asks asked.now.machine.now) M.Answers) asked.now.request.now asked.now.text.now compared
         (writer_contents W.contents output.old) (writer_contents W.contents output.new) result }
     ensures flush { OnOk result (writer_buffer output.new ≡ []) }
 {
@@ -223,33 +223,39 @@ fn ask_after<M: Machine, W: Write + Drop>(
             return Err(fault);
         }
     }
-    ask_again(alloc, asked.request, asked.text, machine, output)
+    ask_again(alloc, asked.request, asked.text, asked.machine, output)
 }
 
 /// Prints what the new configuration changes of the old one, and then asks as [`reload`] does.
-fn reload_shown<M: Machine, W: Write + Drop, E: OctetSink>(
+fn reload_shown<M: Machine, R, W: Write + Drop, E: OctetSink>(
     alloc: Global,
     both: Both,
-    asked: &Reloading<'_>,
+    asked: &Reloading<'_, M>,
     most: u64,
-    machine: &M,
-    output: &mut BufWriter<W>,
-    errors: &mut E,
+    streams: &mut Streams<R, W, E>,
 ) -> Result<(), Fault>
-    ensures output { LeavesReloadShown (answers_by (M.Asks machine.now) M.Answers) asked.now.request.now asked.now.text.now most
-        (writer_contents W.contents output.old) (writer_contents W.contents output.new) both.old both.new result }
-    ensures said { (said : List ℕ) × ReportsProgress both.old both.new said
-        × (E.NeverFails errors.old → Appends (E.held errors.old) (E.held errors.new) said) }
-    ensures lasts { E.NeverFails errors.old → E.NeverFails errors.new }
-    ensures flush { OnOk result (writer_buffer output.new ≡ []) }
+    ensures output { let was = streams.old in
+        let is = streams.new in
+        LeavesReloadShown (answers_by (M.Asks asked.now.machine.now) M.Answers) asked.now.request.now asked.now.text.now most
+        (writer_contents W.contents was.output) (writer_contents W.contents is.output) both.old both.new result }
+    ensures said { let was = streams.old in
+        let is = streams.new in
+        (said : List ℕ) × ReportsProgress both.old both.new said
+        × (E.NeverFails was.errors → Appends (E.held was.errors) (E.held is.errors) said) }
+    ensures lasts { E.NeverFails streams.old.errors → E.NeverFails streams.new.errors }
+    ensures flush { OnOk result (writer_buffer streams.new.output ≡ []) }
 {
     let new = both.new?;
     match both.old {
         Ok(old) => {
             let limits = Limits { most, steps: false };
-            let mut seconds = Seconds::new(machine.calendar());
-            let compared = print_compared(alloc, limits, &old, &new, &mut seconds, output, errors);
-            ask_after(alloc, compared, asked, machine, output)
+            let mut seconds = Seconds::new(asked.machine.calendar());
+            let sides = Sides {
+                old: &old,
+                new: &new,
+            };
+            let compared = print_compared(alloc, limits, &sides, &mut seconds, streams);
+            ask_after(alloc, compared, asked, &mut streams.output)
         }
         Err(fault) => Err(fault.of_other()),
     }
@@ -300,41 +306,6 @@ pub(crate) fn octets_or(text: &Result<Vec<u8>, Fault>) -> &[u8]
     }
 }
 
-/// Asks the gateway that runs under the configuration of a text that was read to read it again, if its assertions hold; after what
-/// that changes of the configuration in another file was shown, if one is named.
-fn reload_of<F: ConfigFiles, M: Machine, W: Write + Drop, E: OctetSink>(
-    alloc: Global,
-    files: &F,
-    text: &Result<Vec<u8>, Fault>,
-    asking: &AskedReload<'_>,
-    machine: &M,
-    output: &mut BufWriter<W>,
-    errors: &mut E,
-) -> Result<(), Fault>
-    ensures reloaded { (said : List ℕ) × LeavesReloadOf (F.Reads files.now) (answers_by (M.Asks machine.now) M.Answers)
-        asking.now.request.now (result_map (λ octets. octets.items) text.now) asking.now.was.now
-        (writer_contents W.contents output.old) (writer_contents W.contents output.new) said result
-        × (E.NeverFails errors.old → Appends (E.held errors.old) (E.held errors.new) said) }
-    ensures lasts { E.NeverFails errors.old → E.NeverFails errors.new }
-    ensures flush { OnOk result (writer_buffer output.new ≡ []) }
-{
-    let read = configuration_of(alloc, text);
-    let new = sound_of(alloc, read, output);
-    let asked = Reloading {
-        request: asking.request,
-        text: octets_or(text),
-    };
-    match asking.was {
-        Some(shown) => {
-            let old = placed_in(alloc, files, &shown.old);
-            let new = placed_as(alloc, new, text);
-            let both = Both { old, new };
-            reload_shown(alloc, both, &asked, shown.most, machine, output, errors)
-        }
-        None => reload(alloc, new, &asked, machine, output),
-    }
-}
-
 /// What `reload` is asked for: the files of the configuration and of the request, and what is compared first.
 #[derive(Drop)]
 pub struct AskedReload<'a> {
@@ -343,22 +314,39 @@ pub struct AskedReload<'a> {
     pub was: &'a Option<Shown>,
 }
 
-/// Asks the gateway that runs under the configuration of a file to read it again, if its assertions hold.
-pub fn reload_in<F: ConfigFiles, M: Machine, W: Write + Drop, E: OctetSink>(
+/// Asks the gateway that runs under the configuration of a file to read it again, if its assertions hold; after what that changes of
+/// the configuration in another file was shown, if one is named.
+pub fn reload_in<F: ConfigFiles, M: Machine, R, W: Write + Drop, E: OctetSink>(
     alloc: Global,
     files: &F,
     asking: &AskedReload<'_>,
     machine: &M,
-    output: &mut BufWriter<W>,
-    errors: &mut E,
+    streams: &mut Streams<R, W, E>,
 ) -> Result<(), Fault>
-    ensures reloaded { (said : List ℕ) × LeavesReloadIn (F.Reads files.now) (answers_by (M.Asks machine.now) M.Answers)
+    ensures reloaded { let was = streams.old in
+        let is = streams.new in
+        (said : List ℕ) × LeavesReloadIn (F.Reads files.now) (answers_by (M.Asks machine.now) M.Answers)
         asking.now.config.now asking.now.request.now asking.now.was.now
-        (writer_contents W.contents output.old) (writer_contents W.contents output.new) said result
-        × (E.NeverFails errors.old → Appends (E.held errors.old) (E.held errors.new) said) }
-    ensures lasts { E.NeverFails errors.old → E.NeverFails errors.new }
-    ensures flush { OnOk result (writer_buffer output.new ≡ []) }
+        (writer_contents W.contents was.output) (writer_contents W.contents is.output) said result
+        × (E.NeverFails was.errors → Appends (E.held was.errors) (E.held is.errors) said) }
+    ensures lasts { E.NeverFails streams.old.errors → E.NeverFails streams.new.errors }
+    ensures flush { OnOk result (writer_buffer streams.new.output ≡ []) }
 {
     let text = files.read(alloc, asking.config);
-    reload_of(alloc, files, &text, asking, machine, output, errors)
+    let read = configuration_of(alloc, &text);
+    let new = sound_of(alloc, read, &mut streams.output);
+    let asked = Reloading {
+        request: asking.request,
+        text: octets_or(&text),
+        machine,
+    };
+    match asking.was {
+        Some(shown) => {
+            let old = placed_in(alloc, files, &shown.old);
+            let new = placed_as(alloc, new, &text);
+            let both = Both { old, new };
+            reload_shown(alloc, both, &asked, shown.most, streams)
+        }
+        None => reload(alloc, new, &asked, &mut streams.output),
+    }
 }

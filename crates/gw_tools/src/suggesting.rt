@@ -10,8 +10,8 @@ ghost use Rattle.gw_tools.specs.Program.{LeavesSuggested, LeavesSuggestedIn};
 ghost use Rattle.gw_tools.specs.Suggesting.{Suggests, fault_of_suggestion, first_suggestion_fault};
 
 use crate::unread::report_unread;
-use gw_ending::Fault;
 use gw_ending::reading::ConfigFiles;
+use gw_ending::{Fault, Streams};
 use gw_policy_drafts::suggestion::{Manner, SuggestFault};
 use gw_script::{OctetSink, OctetSource};
 use gw_verdicts::asks::{AskLines, Lent};
@@ -82,44 +82,28 @@ fn suggest_rules<R: OctetSource, W: Write + Drop>(
     }
 }
 
-/// Suggests rules for the asks of standard input under the configuration of a file.
-fn suggest_in<F: ConfigFiles, R: OctetSource, W: Write + Drop>(
-    alloc: Global,
-    files: &F,
-    file: &str,
-    manner: Manner,
-    input: &mut R,
-    output: &mut BufWriter<W>,
-) -> Result<(), Fault>
-    ensures output { LeavesSuggestedIn (F.Reads files.now) file.now manner (R.left input.old)
-        (writer_contents W.contents output.old) (writer_contents W.contents output.new) result }
-    ensures flush { OnOk result (writer_buffer output.new ≡ []) }
-{
-    let text = files.read(alloc, file);
-    suggest_rules(alloc, &text, manner, input, output)
-}
-
-/// Suggests rules for the asks that standard input shows, whatever is in front of them, and reports how many lines show
-/// none.
+/// Suggests rules under the configuration of a file for the asks that standard input shows, whatever is in front of them, and
+/// reports how many lines show none.
 pub fn suggest_shown<F: ConfigFiles, R: OctetSource, W: Write + Drop, E: OctetSink>(
     alloc: Global,
     files: &F,
     file: &str,
     manner: Manner,
-    input: &mut R,
-    output: &mut BufWriter<W>,
-    errors: &mut E,
+    streams: &mut Streams<R, W, E>,
 ) -> Result<(), Fault>
-    ensures suggested { (said : List ℕ) × LeavesSuggestedIn (F.Reads files.now) file.now manner
-        (asks_in false (R.left input.old))
-        (writer_contents W.contents output.old) (writer_contents W.contents output.new) result
+    ensures suggested { let was = streams.old in
+        let is = streams.new in
+        (said : List ℕ) × LeavesSuggestedIn (F.Reads files.now) file.now manner
+        (asks_in false (R.left was.input))
+        (writer_contents W.contents was.output) (writer_contents W.contents is.output) result
         × ReportsUnread false result said
-        × (E.NeverFails errors.old → Appends (E.held errors.old) (E.held errors.new) said) }
-    ensures lasting { E.NeverFails errors.old → E.NeverFails errors.new }
-    ensures flush { OnOk result (writer_buffer output.new ≡ []) }
+        × (E.NeverFails was.errors → Appends (E.held was.errors) (E.held is.errors) said) }
+    ensures lasting { E.NeverFails streams.old.errors → E.NeverFails streams.new.errors }
+    ensures flush { OnOk result (writer_buffer streams.new.output ≡ []) }
 {
-    let mut asks = AskLines::new(Lent::new(input));
-    let outcome = suggest_in(alloc, files, file, manner, &mut asks, output);
-    report_unread(outcome, asks.unread(), errors);
+    let text = files.read(alloc, file);
+    let mut asks = AskLines::new(Lent::new(&mut streams.input));
+    let outcome = suggest_rules(alloc, &text, manner, &mut asks, &mut streams.output);
+    report_unread(outcome, asks.unread(), &mut streams.errors);
     outcome
 }

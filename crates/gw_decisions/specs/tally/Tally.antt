@@ -33,11 +33,15 @@ place_of by = option_map_or (λ number. number) by 0
 abbrev pub one_more : ℕ → ℕ
 one_more n = min (n + 1) (2 ^ 64 - 1)
 
--- one ask more is of this place, and its count may be at its end
-pub record CountsOne (at : ℕ) (before after : List ℕ) : Type 0 where
+-- and so many more
+abbrev pub more : (asks n : ℕ) → ℕ
+more asks n = if asks == 0 then n else min (n + asks) (2 ^ 64 - 1)
+
+-- so many asks more are of this place, and its count may be at its end
+pub record CountsMore (at asks : ℕ) (before after : List ℕ) : Type 0 where
   pub places : length after ≡ length before
   pub each : (k : ℕ) → k < length before
-      → slice_index after k ≡ (if at == k then one_more (slice_index before k) else slice_index before k)
+      → slice_index after k ≡ (if at == k then more asks (slice_index before k) else slice_index before k)
 
 -- a rule by its number and its name
 abbrev pub rule_text : ℕ → Rule → List ℕ

@@ -2,7 +2,7 @@
 
 ghost use Rattle.std.specs.Prelude.{◌≡◌, ◌==◌, ◌+◌, ◌<◌, [], length, slice_index, IfErr, IfOk, OnOk};
 ghost use Rattle.gw_script.specs.declared.lines.LinesFault.TheVariants as fault;
-ghost use Rattle.gw_decisions.specs.tally.Tally.{AddsOne, CountsOne, IsTally, place, place_of};
+ghost use Rattle.gw_decisions.specs.tally.Tally.{AddsOne, CountsMore, IsTally, place};
 
 use gw_rules::{Ask, RuleList};
 use gw_script::LinesFault;
@@ -51,17 +51,13 @@ impl Tally {
         self.counts.len() == rules.rules().len() + 1
     }
 
-    /// Counts one ask more that the rule of this number decides, or no rule. A count of 2^64 - 1 stays, and a rule
-    /// that isn't there isn't counted.
-    pub fn count_decided(&mut self, by: Option<u16>)
-        ensures { CountsOne (place_of by) self.old self.new }
+    /// Counts so many asks more that the rule of this number decides, from 1, or no rule at 0. A count of 2^64 - 1 stays,
+    /// and a rule that isn't there isn't counted.
+    pub fn count_decided(&mut self, number: usize, asks: usize)
+        ensures { CountsMore number asks self.old self.new }
     {
-        let at = match by {
-            Some(rule) => usize::from(rule),
-            None => 0,
-        };
-        if at < self.counts.len() {
-            self.counts[at] = self.counts[at].saturating_add(1);
+        if number < self.counts.len() {
+            self.counts[number] = self.counts[number].saturating_add(asks as u64);
         }
     }
 

@@ -4,6 +4,7 @@ use Rattle.std.specs.Io.KnownBytes.{Appends}
 use Rattle.gw_ending.specs.declared.fault.Fault.{Fault}
 use Rattle.gw_ending.specs.declared.fault.Fault.TheVariants as fault
 use Rattle.gw_ending.specs.reading.Configured.{FaultNote}
+use Rattle.gw_ending.specs.declared.reading.printing.Said.{Said}
 
 -- known octets grow by a front of a text
 pub record AppendsFront (held holds : Option (List ℕ)) (text : List ℕ) : Type 0 where
@@ -27,3 +28,8 @@ abbrev pub LeavesEnding : (text : List ℕ) → (ends : Result (Unit {0}) Fault)
     → Result (Unit {0}) Fault → Type 0
 LeavesEnding text ends held holds outcome =
     ((outcome ≡ ends) × Appends held holds text) ⊎ ((outcome ≡ Err fault.Write) × AppendsFront held holds text)
+
+-- What printing leaves of what a command says, or of why it says nothing.
+abbrev pub LeavesSaid : Result Said Fault → Option (List ℕ) → Option (List ℕ) → Result (Unit {0}) Fault → Type 0
+LeavesSaid (Ok said) held holds outcome = LeavesEnding said.text.items said.ends held holds outcome
+LeavesSaid (Err f) held holds outcome = (outcome ≡ Err f) × (holds ≡ held)

@@ -7,7 +7,7 @@ ghost use Rattle.gw_ending.specs.reading.Assertions.{assertion_name, decider_nam
 
 use crate::Fault;
 use crate::reading::configured::summary;
-use crate::reading::printing::print_ending;
+use crate::reading::printing::{Said, print_ending};
 use gw_ask_sets::ask_text::put_ask;
 use gw_ask_sets::assertions::Judged;
 use gw_ask_sets::numbered::item_at;
@@ -135,6 +135,17 @@ pub fn put_unheld(out: &mut Vec<u8>, config: &Config, judged: &[Judged]) -> Resu
         put_line(out, config, place + 1, &judged[place])?;
     }
     Ok(())
+}
+
+/// A text that is said of assertions that were judged: the command ends with `Broken` unless each of them holds.
+pub fn said_of_judged(text: Vec<u8>, judged: &[Judged]) -> Said
+    ensures text { result.text ≡ text }
+    ensures ends { result.ends ≡ outcome_of_judged judged.now }
+{
+    Said {
+        text,
+        ends: outcome_of_judged(judged),
+    }
 }
 
 /// Prints a text of assertions that were judged so, which says how the command ends.

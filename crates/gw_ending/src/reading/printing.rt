@@ -6,7 +6,7 @@ ghost use Rattle.std.specs.Io.KnownBytes.{Appends};
 ghost use Rattle.gw_ending.specs.declared.fault.Fault.TheVariants as fault;
 ghost use Rattle.gw_ending.specs.reading.Configured.{FaultNote, IsExplainedBy};
 ghost use Rattle.gw_ending.specs.reading.Files.{result_map};
-ghost use Rattle.gw_ending.specs.reading.Printing.{AppendsFront, LeavesEnding, LeavesPrinted};
+ghost use Rattle.gw_ending.specs.reading.Printing.{AppendsFront, LeavesEnding, LeavesPrinted, LeavesSaid};
 
 use crate::Fault;
 use gw_configuration::ConfigFault;
@@ -61,6 +61,39 @@ pub fn print_ending<W: Write + Drop>(
 {
     match print(text, output) {
         Ok(()) => ends,
+        Err(fault) => Err(fault),
+    }
+}
+
+/// What a command says, and how it ends once that is printed.
+#[derive(Drop)]
+pub struct Said {
+    pub text: Vec<u8>,
+    pub ends: Result<(), Fault>,
+}
+
+impl Said {
+    /// A text after which a command ends well.
+    pub fn well(text: Vec<u8>) -> Said
+        ensures text { result.text ≡ text }
+        ensures ends { result.ends ≡ Ok tt }
+    {
+        Said { text, ends: Ok(()) }
+    }
+}
+
+/// Prints what a command says; if it says nothing, why not is how it ends. `Write` if a write or the flush fails; then a front
+/// of the text is written.
+pub fn print_said<W: Write + Drop>(
+    said: Result<Said, Fault>,
+    output: &mut BufWriter<W>,
+) -> Result<(), Fault>
+    ensures output { LeavesSaid said
+        (writer_contents W.contents output.old) (writer_contents W.contents output.new) result }
+    ensures flush { OnOk result (writer_buffer output.new ≡ []) }
+{
+    match said {
+        Ok(said) => print_ending(&said.text, said.ends, output),
         Err(fault) => Err(fault),
     }
 }

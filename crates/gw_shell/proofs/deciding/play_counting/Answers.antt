@@ -8,6 +8,6 @@ returns-clause-counted g c =
     let held = g.E.OctetSink.held in (
       decisions_text c.replay_counting-counted.result.decisions,
       c.replay_counting-counted.ensures.output,
-      λ never. subst (λ (text : List ℕ). Appends (held c.args.errors.now) (held c.write_note.new.errors) text) c.as_bytes.ensures
+      λ never. subst (λ (text : List ℕ). Appends (held c.args.streams.now.errors) (held c.write_note.new.errors) text) c.as_bytes.ensures
           (c.write_note.ensures.said never),
     )

@@ -11,7 +11,7 @@ returns-else-counts-clause-played g c =
         read.result,
         read.ensures,
         c.play.ensures.output,
-        uncounted_reports c.args.how.counts (g.R.OctetSource.left c.args.input.now) read.result c.play.result c.if-counts.false,
+        uncounted_reports c.args.how.counts (g.R.OctetSource.left c.args.streams.now.input) read.result c.play.result c.if-counts.false,
       ),
-      λ never. appends_nothing (g.E.OctetSink.held c.args.errors.now),
+      λ never. appends_nothing (g.E.OctetSink.held c.args.streams.now.errors),
     )

@@ -13,7 +13,7 @@ returns-in-Ok-Check-clause-followed g c =
     let text = result_map (λ (octets : Vec ℕ). octets.items) c.read-text.result in
     let reads = subst (λ (name : List ℕ). g.F.ConfigFiles.Reads c.args.files.now name text) c.deref.ensures c.read-text.ensures in
     followed _ _ c.args.choice.now (Ok chosen) c.check.result is refl (text, reads, c.check.ensures.output)
-    (λ never. appends_nothing (g.E.OctetSink.held c.args.errors.now))
+    (λ never. appends_nothing (g.E.OctetSink.held c.args.streams.now.errors))
 
 pub returns-in-Ok-Replay-clause-followed : goal.returns-in-Ok-Replay-clause-followed
 returns-in-Ok-Replay-clause-followed g c =

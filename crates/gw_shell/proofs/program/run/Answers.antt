@@ -24,10 +24,10 @@ returns g c =
         errors = λ never.
             let followed = c.follow-outcome.ensures.lasting never in
             let lasting = c.report_place_by.ensures.lasts followed in
-            appends_two (held c.args.errors.now) (held c.end_by-exit.new.errors) (held c.write_note.new.errors)
+            appends_two (held c.args.streams.now.errors) (held c.end_by-exit.new.errors) (held c.write_note.new.errors)
             (done.said ++ placed.0 ++ error_text_by chosen outcome) (usage_of chosen)
-            (appends_two (held c.args.errors.now) (held c.report_place_by.new.errors) (held c.end_by-exit.new.errors) (done.said ++ placed.0) (error_text_by chosen outcome)
-            (appends_two (held c.args.errors.now) (held c.follow-outcome.new.errors) (held c.report_place_by.new.errors) done.said placed.0
+            (appends_two (held c.args.streams.now.errors) (held c.report_place_by.new.errors) (held c.end_by-exit.new.errors) (done.said ++ placed.0) (error_text_by chosen outcome)
+            (appends_two (held c.args.streams.now.errors) (held c.follow-outcome.new.streams.errors) (held c.report_place_by.new.errors) done.said placed.0
             (done.errors never) (placed.2 followed)) (c.end_by-exit.ensures.line lasting))
             (subst (λ (text : List ℕ). Appends (held c.end_by-exit.new.errors) (held c.write_note.new.errors) text) c.usage_of.ensures
             (c.write_note.ensures.said (c.end_by-exit.ensures.lasts lasting)));

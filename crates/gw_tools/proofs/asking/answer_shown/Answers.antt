@@ -11,7 +11,7 @@ returns-clause-shown g c =
     let outcome = c.answer-outcome.result in
     let left = c.new-asks.ensures.left ∙ ap (option_map ask_lines) c.new.ensures.left in (
       unread_after c.unread.result outcome,
-      subst (λ (input : Option (List ℕ)). LeavesAnswered c.args.counts input (contents c.args.output.now) (contents c.answer-outcome.new.output)
+      subst (λ (input : Option (List ℕ)). LeavesAnswered c.args.counts input (contents c.args.streams.now.output) (contents c.answer-outcome.new.output)
           c.args.placed outcome) left c.answer-outcome.ensures.output,
       (c.unread.result, refl),
       c.report_unread.ensures.said,

@@ -15,8 +15,8 @@ how most old_lines new_lines = record { most = most; old_lines = old_lines; new_
 pub returns-clause-compared : goal.returns-clause-compared
 returns-clause-compared g c =
     let limits = c.args.limits in
-    let old = c.args.old.now in
-    let new = c.args.new.now in
+    let old = c.args.sides.now.old.now in
+    let new = c.args.sides.now.new.now in
     let front = c.put_assertions.new.out.items in
     let at = c.in_ok-comparing.comparing in
     let is = c.in_ok-comparing.ensures in

@@ -9,11 +9,11 @@ use Rattle.gw_tools.proofs.objects.judge_in.Goals as goal
 pub returns-then-strict-clause-judged : goal.returns-then-strict-clause-judged
 returns-then-strict-clause-judged g c =
     let contents = writer_contents g.W.Write.contents in
-    let held = g.E.OctetSink.held c.args.errors.now in
+    let held = g.E.OctetSink.held c.args.streams.now.errors in
     let outcome = c.judge_strictly.result in
     subst (λ (strict : Bool). (said : List ℕ) × LeavesJudgedIn (g.F.ConfigFiles.Reads c.args.files.now) c.args.file.now
-    (asks_in strict (g.R.OctetSource.left c.args.input.now)) (contents c.args.output.now) (contents c.judge_strictly.new.output) outcome
-    × ReportsUnread strict outcome said × (g.E.OctetSink.NeverFails c.args.errors.now → Appends held held said)) (sym c.if-strict.true) (
+    (asks_in strict (g.R.OctetSource.left c.args.streams.now.input)) (contents c.args.streams.now.output) (contents c.judge_strictly.new.output) outcome
+    × ReportsUnread strict outcome said × (g.E.OctetSink.NeverFails c.args.streams.now.errors → Appends held held said)) (sym c.if-strict.true) (
       [],
       c.judge_strictly.ensures.output,
       refl,

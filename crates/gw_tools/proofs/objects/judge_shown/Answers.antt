@@ -12,7 +12,7 @@ returns-clause-shown g c =
     let left = c.new-asks.ensures.left ∙ ap (option_map ask_lines) c.new.ensures.left in (
       unread_after c.unread.result outcome,
       subst (λ (input : Option (List ℕ)). LeavesJudgedIn (g.F.ConfigFiles.Reads c.args.files.now) c.args.file.now input
-          (contents c.args.output.now) (contents c.judge_strictly-outcome.new.output) outcome) left c.judge_strictly-outcome.ensures.output,
+          (contents c.args.streams.now.output) (contents c.judge_strictly-outcome.new.output) outcome) left c.judge_strictly-outcome.ensures.output,
       (c.unread.result, refl),
       c.report_unread.ensures.said,
     )
