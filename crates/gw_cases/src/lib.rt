@@ -13,7 +13,7 @@ mod source;
 mod written;
 
 pub use edits::edited;
-pub use memory::{MemReader, MemWriter, Streams};
+pub use memory::{CaseStreams, MemReader, MemWriter};
 pub use notation::{
     event_lines, is_case, made, number, number_behind, number_or_none, octets_of, put_end,
     put_octets, put_other, put_word, unfolded, wanted,
@@ -21,4 +21,4 @@ pub use notation::{
 pub use sections::{Case, Kinds, write_groups, write_sections};
 pub use sink::MemSink;
 pub use source::MemSource;
-pub use written::Written;
+pub use written::WrittenOctets;

@@ -121,13 +121,13 @@ impl Write for MemWriter {
 
 /// The streams of a case: the text that is read, the read that fails, from 0, and the writer.
 #[derive(Drop)]
-pub struct Streams {
+pub struct CaseStreams {
     pub text: Vec<u8>,
     pub fails: Option<u64>,
     pub writer: MemWriter,
 }
 
-impl Streams {
+impl CaseStreams {
     /// Those of a line: the read that fails, from 0, or `-`, the write that fails, how many octets a write takes, and the text.
     ///
     /// # Errors
@@ -140,7 +140,7 @@ impl Streams {
         let octets = number(words.next())?;
         let text = unfolded(alloc, words.next().unwrap_or(""))?;
         let writer = MemWriter::new(alloc, write, octets)?;
-        Ok(Streams {
+        Ok(CaseStreams {
             text,
             fails,
             writer,

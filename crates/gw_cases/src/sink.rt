@@ -2,7 +2,7 @@
 
 ghost use Rattle.std.specs.Prelude.{◌≡◌, ◌≤◌, ◌<◌, ◌++◌, [], None, Some, false, length, IfOk, IsOk};
 
-use crate::written::Written;
+use crate::written::WrittenOctets;
 use gw_script::{OctetSink, WriteFailed};
 use std::alloc::{AllocError, Global};
 
@@ -13,7 +13,7 @@ pub struct MemSink {
     /// How many octets it still takes; all if this is none.
     pub room: Option<usize>,
     /// What was written to it.
-    pub written: Written,
+    pub written: WrittenOctets,
     shown: Vec<u8>,
     is_lost: bool,
     ghost whole: { is_lost ≡ false → shown.items ≡ written.octets },
@@ -45,7 +45,7 @@ impl MemSink {
     {
         Ok(MemSink {
             room,
-            written: Written::new(),
+            written: WrittenOctets::new(),
             shown: Vec::with_capacity(alloc, memory)?,
             is_lost: false,
         })

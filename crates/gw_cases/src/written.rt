@@ -7,20 +7,20 @@ use std::marker::Model;
 
 /// All that was written to something. It takes no memory, so what memory is refused for is part of it all the same.
 #[derive(Drop)]
-pub struct Written {
+pub struct WrittenOctets {
     pub ghost octets: { List ℕ },
 }
 
-impl Model for Written {
+impl Model for WrittenOctets {
     ghost also_owns = { λ _. ftrue };
 }
 
-impl Written {
+impl WrittenOctets {
     /// Nothing was written yet.
-    pub fn new() -> Written
+    pub fn new() -> WrittenOctets
         ensures { result.octets ≡ [] }
     {
-        Written {}
+        WrittenOctets {}
     }
 
     /// These octets were, too.

@@ -10,7 +10,7 @@ use Rattle.gw_core.specs.State.{State}
 use Rattle.gw_core.specs.Seen.{IsSeenOf, Seen}
 use Rattle.gw_rules.specs.declared.verdict.Verdict.{Verdict}
 use Rattle.gw_core.specs.declared.gateway.Taken.{Taken}
-use Rattle.gw_core.specs.declared.guard.Both.{Both}
+use Rattle.gw_core.specs.declared.guard.BothGuards.{BothGuards}
 
 -- the event was taken in this state: what it does, why it is dropped, if it is, and whether it lasts; and the state then
 pub record IsTaken (w : State) (event : Event) (after : State) (taken : Taken) : Type 0 where
@@ -29,7 +29,7 @@ IsSeen false keeps w event None = ⊤
 
 -- both pass an event, and its datagrams may go if both let them
 abbrev pub PassesBoth : {G H : Type 0} → (G → State → Event → G → Bool → Type 0) → (H → State → Event → H → Bool → Type 0)
-    → Both G H → State → Event → Both G H → Bool → Type 0
+    → BothGuards G H → State → Event → BothGuards G H → Bool → Type 0
 PassesBoth First Second both w event then passes =
     (one : Bool) × (two : Bool) × First both.first w event then.first one × Second both.second w event then.second two
     × (passes ≡ (one && two))

@@ -82,14 +82,14 @@ impl Guard for Unguarded {
 
 /// Two guards: each passes every event, the first before the second, and its datagrams may go if both let them.
 #[derive(Drop)]
-pub struct Both<G, H> {
+pub struct BothGuards<G, H> {
     /// The guard that is asked first.
     pub first: G,
     /// The guard that is asked then.
     pub second: H,
 }
 
-impl<G: Guard, H: Guard> Guard for Both<G, H> {
+impl<G: Guard, H: Guard> Guard for BothGuards<G, H> {
     ghost Passes = { PassesBoth G.Passes H.Passes };
 
     ghost watching = { λ both. G.watching both.first || H.watching both.second };

@@ -9,21 +9,21 @@ use std::marker::Model;
 
 /// All verdicts on what was asked. It takes no memory.
 #[derive(Drop)]
-pub(crate) struct Heard {
+pub(crate) struct HeardVerdicts {
     pub ghost verdicts: { List Verdict },
 }
 
-impl Model for Heard {
+impl Model for HeardVerdicts {
     ghost also_owns = { λ _. ftrue };
 }
 
-impl Heard {
+impl HeardVerdicts {
     /// Nothing was asked yet.
     #[inline(always)]
     pub(crate) fn new() -> Self
         ensures { result.verdicts ≡ [] }
     {
-        Heard {}
+        HeardVerdicts {}
     }
 
     /// These verdicts came, too.

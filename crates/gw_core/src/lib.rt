@@ -30,7 +30,7 @@ pub use event::Counts;
 pub use explaining::{append_asked, put_verdict};
 pub use fault::StepFault;
 pub use gateway::{Gateway, Reported, Taken};
-pub use guard::{Both, Guard, Unguarded};
+pub use guard::{BothGuards, Guard, Unguarded};
 pub use gw_audit::{Denial, Denials};
 pub use gw_configuration::{Config, ConfigFault};
 pub use gw_relay::{Batch, Sends};

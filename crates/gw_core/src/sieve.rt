@@ -8,7 +8,7 @@ ghost use Rattle.gw_rules.specs.declared.verdict.Verdict.{Verdict};
 ghost use Rattle.gw_core.specs.internal.Sieved.{IsSieved, sieved_on};
 
 use crate::guard::Guard;
-use crate::heard::Heard;
+use crate::heard::HeardVerdicts;
 use crate::seen::Deciders;
 use gw_rule_index::Policy;
 use gw_rules::{Ask, Asker, Judge, Refusal, Refusals, Verdict, Verdicts};
@@ -63,7 +63,7 @@ pub(crate) struct Sieve<'a, G: Guard> {
     policy: &'a Policy,
     guard: &'a G,
     sieved: Sieved,
-    heard: Heard,
+    heard: HeardVerdicts,
 }
 
 impl<'a, G: Guard> Model for Sieve<'a, G> {
@@ -91,7 +91,7 @@ impl<'a, G: Guard> Sieve<'a, G> {
                 deciders: Deciders::new(alloc),
                 kept: Verdicts::new(alloc),
             },
-            heard: Heard::new(),
+            heard: HeardVerdicts::new(),
         }
     }
 

@@ -8,7 +8,7 @@ use crate::wire::MemWire;
 use gw_cases::{MemWriter, number, put_word, unfolded};
 use gw_core::{Counts, Gateway};
 use gw_state::Origin;
-use gw_turns::{Keeper, Pause, ServeFault, ServeState};
+use gw_turns::{Keeper, ServeFault, ServeState, StretchEnd};
 use gw_wire::{Store, StoreFault, Wire};
 use std::alloc::Global;
 use std::io;
@@ -74,22 +74,22 @@ struct Edges<'a> {
 }
 
 /// The letter of a pause.
-fn letter(pause: Pause) -> u8 {
+fn letter(pause: StretchEnd) -> u8 {
     match pause {
-        Pause::Turns => b'e',
-        Pause::Tick => b't',
-        Pause::Withheld => b'w',
+        StretchEnd::Turns => b'e',
+        StretchEnd::Tick => b't',
+        StretchEnd::Withheld => b'w',
     }
 }
 
 /// Has the keeper keep the state after a pause, if it is a tick. A fault if memory was refused for a text.
 fn keep_after(
     alloc: Global,
-    pause: Pause,
+    pause: StretchEnd,
     gateway: &Gateway,
     keeper: &mut Keeper<MemStore<'_>>,
 ) -> io::Result<()> {
-    if let Pause::Tick = pause {
+    if let StretchEnd::Tick = pause {
         keeper.keep_at_tick(alloc, gateway);
     }
     match keeper.failing() {

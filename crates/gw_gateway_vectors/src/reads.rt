@@ -3,7 +3,7 @@
 ghost use Rattle.std.specs.Prelude.{◌+◌, ◌≤◌, ◌<◌};
 
 use crate::configurations::read;
-use gw_cases::{Streams, put_end};
+use gw_cases::{CaseStreams, put_end};
 use gw_replay::replay;
 use gw_script::{OctetSource, ReadFailed};
 use std::alloc::Global;
@@ -35,11 +35,11 @@ impl<R: Read> OctetSource for CountedReads<R> {
 
 /// How the replay of a script ends, and after how many reads of a reader that gives all that it has.
 pub fn reads(alloc: Global, config: &str, line: &str, out: &mut Vec<u8>) -> io::Result<()> {
-    let Streams {
+    let CaseStreams {
         text,
         mut writer,
         ..
-    } = Streams::parse(alloc, line)?;
+    } = CaseStreams::parse(alloc, line)?;
     let config = read(alloc, config)?;
     let mut source = CountedReads {
         reader: text.as_slice(),

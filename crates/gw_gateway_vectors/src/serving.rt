@@ -8,7 +8,7 @@ use crate::wire::MemWire;
 use gw_cases::{MemWriter, number, number_or_none, put_word, unfolded};
 use gw_core::{Counts, Gateway, Unguarded};
 use gw_turns::{
-    Pause, ServeFault, ServeState, ServeStop, Served, has_gone_on, report_of, serve,
+    ServeFault, ServeState, ServeStop, Served, StretchEnd, has_gone_on, report_of, serve,
     write_culprits, write_healths, write_ports, write_report,
 };
 use gw_wire::Wire;
@@ -131,7 +131,7 @@ fn report_due(
 
 /// Reports what was done after a stretch that ended in a fault, or at a tick if a multiple of so many seconds has passed.
 fn report_after(
-    answer: &Result<Pause, ServeFault>,
+    answer: &Result<StretchEnd, ServeFault>,
     gateway: &Gateway,
     state: &ServeState,
     reports: &mut MemWriter,
@@ -140,7 +140,7 @@ fn report_after(
     requires { 0 < seconds }
 {
     match answer {
-        Ok(Pause::Tick) => report_due(gateway, state, reports, seconds),
+        Ok(StretchEnd::Tick) => report_due(gateway, state, reports, seconds),
         Ok(_) => Ok(()),
         Err(_) => report(None, gateway, state, reports),
     }

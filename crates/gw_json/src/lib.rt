@@ -17,6 +17,6 @@ mod why;
 pub use check::{put_check, put_fault};
 pub use comparison::put_differences;
 pub use log::log_in_json;
-pub use results::{Listing, put_results};
+pub use results::{ResultListing, put_results};
 pub use unheld::unheld_line;
 pub use why::why_in_json;

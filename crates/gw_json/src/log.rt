@@ -42,14 +42,14 @@ pub fn log_in_json<R: OctetSource, W: OctetSink>(
         ¬ (IsErrOf result LinesFault.Read) }
     ensures sure_writer { W.NeverFails writer.old → ¬ (IsErrOf result LinesFault.Write) }
 {
-    translate_lines(alloc, &Entries {}, reader, writer)
+    translate_lines(alloc, &LogObjects {}, reader, writer)
 }
 
 /// Makes the objects of the lines of a log.
 #[derive(Drop)]
-struct Entries {}
+struct LogObjects {}
 
-impl LineTranslator for Entries {
+impl LineTranslator for LogObjects {
     ghost Translates = { λ _ line text. IsEntryIn line text };
 
     ghost Refuses = { λ _ _. ⊥ };

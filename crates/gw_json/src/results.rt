@@ -19,7 +19,7 @@ use std::alloc::{AllocError, Global};
 
 /// The rules of the two policies that have names for what is found, and how many lines there are at most of regions, and of pairs.
 #[derive(Clone, Copy)]
-pub struct Listing<'a> {
+pub struct ResultListing<'a> {
     pub old: &'a [Rule],
     pub new: &'a [Rule],
     pub most: usize,
@@ -41,7 +41,7 @@ pub struct Listing<'a> {
 pub fn put_results(
     alloc: Global,
     out: &mut Vec<u8>,
-    listing: &Listing<'_>,
+    listing: &ResultListing<'_>,
     results: &Results,
 ) -> Result<(), AllocError>
     ensures { OnOk result (out.new.items ≡ out.old.items ++ results_lines listing.now.old.now listing.now.new.now listing.now.most
@@ -60,7 +60,7 @@ pub fn put_results(
 fn put_by(
     alloc: Global,
     out: &mut Vec<u8>,
-    listing: &Listing<'_>,
+    listing: &ResultListing<'_>,
     summary: &Summary,
     pairs: &Pairs,
 ) -> Result<(), AllocError>
@@ -79,7 +79,7 @@ fn put_by(
 fn put_by_regions(
     alloc: Global,
     out: &mut Vec<u8>,
-    listing: &Listing<'_>,
+    listing: &ResultListing<'_>,
     steps: u32,
     found: &[Found],
 ) -> Result<(), AllocError>
@@ -93,7 +93,7 @@ fn put_by_regions(
 fn put_by_pairs(
     alloc: Global,
     out: &mut Vec<u8>,
-    listing: &Listing<'_>,
+    listing: &ResultListing<'_>,
     steps: u32,
     found: &[ShownPair],
 ) -> Result<(), AllocError>
@@ -107,7 +107,7 @@ fn put_by_pairs(
 fn put_by_both(
     alloc: Global,
     out: &mut Vec<u8>,
-    listing: &Listing<'_>,
+    listing: &ResultListing<'_>,
     summary: &Summary,
     pairs: &Pairs,
 ) -> Result<(), AllocError>
@@ -124,7 +124,7 @@ fn put_by_both(
 fn put_regions(
     alloc: Global,
     out: &mut Vec<u8>,
-    listing: &Listing<'_>,
+    listing: &ResultListing<'_>,
     found: &[Found],
 ) -> Result<(), AllocError>
     ensures { OnOk result (out.new.items ≡ out.old.items
@@ -137,7 +137,7 @@ fn put_regions(
 fn put_each_region(
     alloc: Global,
     out: &mut Vec<u8>,
-    listing: &Listing<'_>,
+    listing: &ResultListing<'_>,
     found: &[Found],
 ) -> Result<(), AllocError>
     ensures { OnOk result (out.new.items ≡ out.old.items
@@ -153,7 +153,7 @@ fn put_each_region(
 fn put_pairs(
     alloc: Global,
     out: &mut Vec<u8>,
-    listing: &Listing<'_>,
+    listing: &ResultListing<'_>,
     found: &[ShownPair],
 ) -> Result<(), AllocError>
     ensures { OnOk result (out.new.items ≡ out.old.items
@@ -166,7 +166,7 @@ fn put_pairs(
 fn put_each_pair(
     alloc: Global,
     out: &mut Vec<u8>,
-    listing: &Listing<'_>,
+    listing: &ResultListing<'_>,
     found: &[ShownPair],
 ) -> Result<(), AllocError>
     ensures { OnOk result (out.new.items ≡ out.old.items
@@ -182,7 +182,7 @@ fn put_each_pair(
 fn put_pair(
     alloc: Global,
     out: &mut Vec<u8>,
-    listing: &Listing<'_>,
+    listing: &ResultListing<'_>,
     shown: &ShownPair,
 ) -> Result<(), AllocError>
     ensures { IsLinePut (pair_value listing.now.old.now listing.now.new.now shown.now) out.old.items out.new.items result }
@@ -193,7 +193,7 @@ fn put_pair(
 
 fn pair_members(
     alloc: Global,
-    listing: &Listing<'_>,
+    listing: &ResultListing<'_>,
     shown: &ShownPair,
 ) -> Result<Vec<Member>, AllocError>
     ensures { IfOk result (λ members. object_of (members_view members.items)

@@ -16,7 +16,7 @@ use Rattle.gw_state_words.specs.takeover.Findings.{take_over}
 use Rattle.gw_decisions.specs.tally.Tally.{one_more}
 use Rattle.gw_notices.specs.Parts.{part_words}
 use Rattle.gw_notices.specs.declared.checksum.Checksum.{Checksum}
-use Rattle.gw_notices.specs.declared.parts.Part.{Part}
+use Rattle.gw_notices.specs.declared.parts.ConfigurationPart.{ConfigurationPart}
 use Rattle.gw_notices.specs.declared.reload.ReloadCounts.{ReloadCounts}
 use Rattle.gw_notices.specs.declared.reload.ReloadFault.{ReloadFault}
 use Rattle.gw_notices.specs.declared.reload.ReloadFault.TheVariants as fault
@@ -77,7 +77,7 @@ objects_words c = decimal (length c.objects) ++ codes " objects; "
 
 -- the line of a configuration that is taken over by a gateway with these rules, of which this is saved: that, what goes on, and
 -- which of these parts differ
-abbrev pub reload_line : List Rule → Configuration → Saved → List Part → List ℕ
+abbrev pub reload_line : List Rule → Configuration → Saved → List ConfigurationPart → List ℕ
 reload_line rules c s differ =
     codes "reload: " ++ policy_words rules c ++ objects_words c ++ take_over_words (take_over c s) ++ flat_map part_words differ ++ 10 ∷ []
 

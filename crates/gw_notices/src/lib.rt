@@ -21,7 +21,7 @@ pub use line::{line_with_place, name_of, refusal_line, reload_line};
 pub use losses::Losses;
 pub use note::write_note;
 pub use notices::{no_status_line, report_metrics, report_notices, stop_line, untaken_line};
-pub use parts::{Part, push_unless, trial_line};
+pub use parts::{ConfigurationPart, push_unless, trial_line};
 pub use reload::{ReloadCounts, ReloadFault};
 pub use startup::{startup_line, warning_of};
 pub use stats::{write_lost_metrics, write_put_off, write_reloads, write_unkept};

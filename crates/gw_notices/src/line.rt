@@ -4,7 +4,7 @@ ghost use Rattle.std.specs.Prelude.{◌≡◌, ◌++◌, IfOk, IfSome, Ok, OnOk,
 ghost use Rattle.gw_notices.specs.Reload.{IsRefusalLine, located_line, name_of, objects_words, policy_words, refusal_line, refusal_words, reload_line};
 ghost use Rattle.gw_system.specs.Requests.{text_found};
 
-use crate::parts::{Part, put_parts};
+use crate::parts::{ConfigurationPart, put_parts};
 use crate::reload::ReloadFault;
 use crate::rule_changes::{changes_of, put_changes};
 use gw_addr::put_decimal;
@@ -25,7 +25,7 @@ pub fn reload_line(
     rules: &RuleList,
     config: &Config,
     saved: &Saved,
-    differ: &[Part],
+    differ: &[ConfigurationPart],
 ) -> Result<Vec<u8>, AllocError>
     ensures { IfOk result (λ line. line.items ≡ reload_line rules.now config.now saved.now differ.now) }
 {

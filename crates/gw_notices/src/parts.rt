@@ -10,7 +10,7 @@ use std::alloc::{AllocError, Global};
 
 /// A part of a configuration beside its rules.
 #[derive(Clone, Copy)]
-pub enum Part {
+pub enum ConfigurationPart {
     /// Its format.
     Format,
     /// Whether it announces networks.
@@ -27,7 +27,7 @@ pub enum Part {
 
 /// Which parts of two configurations are the same.
 #[derive(Clone, Copy)]
-pub(crate) struct Sameness {
+pub(crate) struct SameParts {
     pub format: bool,
     pub announce: bool,
     pub device: bool,
@@ -36,10 +36,10 @@ pub(crate) struct Sameness {
     pub objects: bool,
 }
 
-fn sameness_of(old: &Config, new: &Config) -> Sameness
+fn sameness_of(old: &Config, new: &Config) -> SameParts
     ensures { IsSameness old.now new.now result }
 {
-    Sameness {
+    SameParts {
         format: old.format().is_same(&new.format()),
         announce: old.announces() == new.announces(),
         device: old.device().is_same(new.device()),
@@ -50,7 +50,11 @@ fn sameness_of(old: &Config, new: &Config) -> Sameness
 }
 
 /// Appends a part, unless it is the same.
-pub fn push_unless(out: &mut Vec<Part>, same: bool, part: Part) -> Result<(), AllocError>
+pub fn push_unless(
+    out: &mut Vec<ConfigurationPart>,
+    same: bool,
+    part: ConfigurationPart,
+) -> Result<(), AllocError>
     ensures { OnOk result (out.new.items ≡ out.old.items ++ unless same part) }
 {
     if !same {
@@ -60,35 +64,35 @@ pub fn push_unless(out: &mut Vec<Part>, same: bool, part: Part) -> Result<(), Al
 }
 
 /// The parts that aren't the same, in order.
-fn parts_of(alloc: Global, same: Sameness) -> Result<Vec<Part>, AllocError>
+fn parts_of(alloc: Global, same: SameParts) -> Result<Vec<ConfigurationPart>, AllocError>
     ensures { IfOk result (λ parts. parts.items ≡ parts_of same) }
 {
     let mut parts = Vec::new(alloc);
-    push_unless(&mut parts, same.format, Part::Format)?;
-    push_unless(&mut parts, same.announce, Part::Announce)?;
-    push_unless(&mut parts, same.device, Part::Device)?;
-    push_unless(&mut parts, same.ports, Part::Ports)?;
-    push_unless(&mut parts, same.routes, Part::Routes)?;
-    push_unless(&mut parts, same.objects, Part::Objects)?;
+    push_unless(&mut parts, same.format, ConfigurationPart::Format)?;
+    push_unless(&mut parts, same.announce, ConfigurationPart::Announce)?;
+    push_unless(&mut parts, same.device, ConfigurationPart::Device)?;
+    push_unless(&mut parts, same.ports, ConfigurationPart::Ports)?;
+    push_unless(&mut parts, same.routes, ConfigurationPart::Routes)?;
+    push_unless(&mut parts, same.objects, ConfigurationPart::Objects)?;
     Ok(parts)
 }
 
 /// What is said of a part that differs.
-fn part_words(part: Part) -> &'static str
+fn part_words(part: ConfigurationPart) -> &'static str
     ensures { result.now ≡ part_words part }
 {
     match part {
-        Part::Format => "; the format differs",
-        Part::Announce => "; announce differs",
-        Part::Device => "; the device differs",
-        Part::Ports => "; the ports differ",
-        Part::Routes => "; the routes differ",
-        Part::Objects => "; the objects differ",
+        ConfigurationPart::Format => "; the format differs",
+        ConfigurationPart::Announce => "; announce differs",
+        ConfigurationPart::Device => "; the device differs",
+        ConfigurationPart::Ports => "; the ports differ",
+        ConfigurationPart::Routes => "; the routes differ",
+        ConfigurationPart::Objects => "; the objects differ",
     }
 }
 
 /// Appends what is said of each of these parts.
-pub(crate) fn put_parts(out: &mut Vec<u8>, parts: &[Part]) -> Result<(), AllocError>
+pub(crate) fn put_parts(out: &mut Vec<u8>, parts: &[ConfigurationPart]) -> Result<(), AllocError>
     ensures { OnOk result (out.new.items ≡ out.old.items ++ flat_map part_words parts.now) }
 {
     for part in parts {
@@ -98,7 +102,7 @@ pub(crate) fn put_parts(out: &mut Vec<u8>, parts: &[Part]) -> Result<(), AllocEr
 }
 
 /// The line on a trial that only the rules of its configuration are tried, and which other parts of that differ, if some do.
-fn line_of(alloc: Global, parts: &[Part]) -> Result<Vec<u8>, AllocError>
+fn line_of(alloc: Global, parts: &[ConfigurationPart]) -> Result<Vec<u8>, AllocError>
     ensures { IfOk result (λ line. line.items ≡ trial_line parts.now) }
 {
     let mut line = Vec::new(alloc);

@@ -32,7 +32,7 @@ use Rattle.gw_policy_drafts.specs.beginning.Begun.{IsBegun, do_hold, is_closed, 
 use Rattle.gw_policy_drafts.specs.beginning.Ports.{ports_of, routes_of}
 use Rattle.gw_policy_drafts.specs.beginning.Site.{Site}
 use Rattle.gw_policy_drafts.specs.internal.Safe.{are_safe, is_one, is_safe, is_safe_for, may_allow}
-use Rattle.gw_policy_drafts.specs.declared.beginning.part.Part.{Part}
+use Rattle.gw_policy_drafts.specs.declared.beginning.part.SitePart.{SitePart}
 
 apart : true ≡ false → ⊥
 apart e = absurd cc
@@ -91,7 +91,7 @@ second : (a b : Bool) → (not a || b) ≡ true → a ≡ true → b ≡ true
 second true b e t = e
 second false b e t = absurd cc
 
-may_allow_of : (operators : List Part) (ask : Ask) (o : Operation) → is_for o ask ≡ true → (opens : Opens (is_safe operators) ask)
+may_allow_of : (operators : List SitePart) (ask : Ask) (o : Operation) → is_for o ask ≡ true → (opens : Opens (is_safe operators) ask)
     → may_allow operators opens.rule o ≡ true
 may_allow_of operators ask o asked opens =
     let rule = opens.rule in
@@ -106,7 +106,7 @@ may_allow_of operators ask o asked opens =
 -- ---- writes
 
 -- a sender that ranges of one operator each hold is an operator's
-held_by : (operators : List Part) (ranges : List Range) (key : ℕ) → list_all (is_one operators) ranges ≡ true → list_any (holds key) ranges ≡ true
+held_by : (operators : List SitePart) (ranges : List Range) (key : ℕ) → list_all (is_one operators) ranges ≡ true → list_any (holds key) ranges ≡ true
     → is_operator operators key ≡ true
 held_by operators [] key all any = absurd cc
 held_by operators (range ∷ ranges) key all any =
@@ -135,7 +135,7 @@ of_some range ranges b e = by (or_cases (length (range ∷ ranges) == 0) b e)
         absurd (omega (arith, is))
     by (inr holds_so) = holds_so
 
-named_by : (operators : List Part) (ranges : List Range) (sender : Option ℕ) → (not (length ranges == 0) && list_all (is_one operators) ranges) ≡ true
+named_by : (operators : List SitePart) (ranges : List Range) (sender : Option ℕ) → (not (length ranges == 0) && list_all (is_one operators) ranges) ≡ true
     → admits ranges sender ≡ true → option_map_or (is_operator operators) sender false ≡ true
 named_by operators [] sender named admitted = absurd (apart (sym named))
 named_by operators (range ∷ ranges) None named admitted = absurd (apart (sym (of_some range ranges false admitted)))
@@ -144,7 +144,7 @@ named_by operators (range ∷ ranges) (Some key) named admitted =
     (and_parts (not (length (range ∷ ranges) == 0)) (list_all (is_one operators) (range ∷ ranges)) named).1
     (of_some range ranges (list_any (holds key) (range ∷ ranges)) admitted)
 
-pub writes_of : (operators : List Part) (rules : List Rule) → are_safe operators rules ≡ true → (ask : Ask) → is_for operation.Write ask ≡ true
+pub writes_of : (operators : List SitePart) (rules : List Rule) → are_safe operators rules ≡ true → (ask : Ask) → is_for operation.Write ask ≡ true
     → allows rules ask ≡ true → is_operators operators ask ≡ true
 writes_of operators rules safe ask asked allowed =
     let opens = opener (is_safe operators) rules ask safe allowed in
@@ -181,7 +181,7 @@ spared : (services : List ℕ) (ranges : List Range) (service : Option ℕ) → 
 spared services ranges None all any admitted = apart (sym any)
 spared services ranges (Some number) all any admitted = spared_one services ranges number all any admitted
 
-pub changes_of : (operators : List Part) (rules : List Rule) → are_safe operators rules ≡ true → (ask : Ask) → is_passed ask ≡ true
+pub changes_of : (operators : List SitePart) (rules : List Rule) → are_safe operators rules ≡ true → (ask : Ask) → is_passed ask ≡ true
     → is_of_service WRITING_SERVICES ask ≡ true → allows rules ask ≡ false
 changes_of operators rules safe ask passed changing = denied_by rules ask (λ allowed. by allowed (or_cases (is_for operation.Route ask) (is_for operation.Cast ask) passed))
   where
@@ -196,7 +196,7 @@ changes_of operators rules safe ask passed changing = denied_by rules ask (λ al
         (admitting opens.rule ask fields.Service opens.matching)
 
 -- a rule may not allow what is closed
-closed_to : (operators : List Part) (rule : Rule) (o : Operation) → is_closed o ≡ true → may_allow operators rule o ≡ false
+closed_to : (operators : List SitePart) (rule : Rule) (o : Operation) → is_closed o ≡ true → may_allow operators rule o ≡ false
 closed_to operators rule operation.Cast e = absurd cc
 closed_to operators rule operation.Route e = absurd cc
 closed_to operators rule operation.Register e = refl
@@ -211,7 +211,7 @@ closed_to operators rule operation.List e = absurd cc
 closed_to operators rule operation.Enter e = refl
 closed_to operators rule operation.Claim e = refl
 
-pub closed_of : (operators : List Part) (rules : List Rule) → are_safe operators rules ≡ true → (o : Operation) (ask : Ask) → is_closed o ≡ true
+pub closed_of : (operators : List SitePart) (rules : List Rule) → are_safe operators rules ≡ true → (o : Operation) (ask : Ask) → is_closed o ≡ true
     → is_for o ask ≡ true → allows rules ask ≡ false
 closed_of operators rules safe o ask closed asked = denied_by rules ask (λ allowed.
     let opens = opener (is_safe operators) rules ask safe allowed in

@@ -12,4 +12,4 @@ pub use begun::begin;
 pub use fault::{BeginFault, Flaw, WrongWord, wrong_line};
 pub use flaws::{MAX_OPERATORS, MAX_PORT_PEERS, MAX_ROUTERS};
 pub use part::SiteOption;
-pub use site::Words;
+pub use site::SiteInWords;

@@ -166,7 +166,7 @@ fn put_tables(out: &mut Vec<u8>, rules: &[Rule], origins: &Origins<'_>) -> Resul
     for (place, rule) in rules.iter().enumerate() {
         let table = usize::from(table_at(origins.tables, place));
         put_number(out, place + 1, table + 1, line_at(origins.lines, table))?;
-        let said = Said {
+        let said = RuleComment {
             note: note_at(origins.notes, place),
             audit: audit_at(origins.audits, place),
         };
@@ -226,7 +226,7 @@ fn put_line_end(out: &mut Vec<u8>, line: Option<u32>) -> Result<(), AllocError>
 
 /// What is said of a rule beside what it decides.
 #[derive(Clone, Copy)]
-struct Said<'a> {
+struct RuleComment<'a> {
     /// Its note, empty if it has none.
     note: &'a str,
     /// Whether what it allows is recorded.
@@ -255,7 +255,7 @@ fn audit_at(audits: &[bool], place: usize) -> bool
 
 /// Appends the table of a rule.
 #[tactic(auto, unfolding(crate::specs::Listing::said_text))]
-fn put_table(out: &mut Vec<u8>, rule: &Rule, said: &Said<'_>) -> Result<(), AllocError>
+fn put_table(out: &mut Vec<u8>, rule: &Rule, said: &RuleComment<'_>) -> Result<(), AllocError>
     ensures { OnOk result (out.new.items ≡ out.old.items ++ said_text rule.now said.now.note.now said.now.audit) }
 {
     put_head(out, rule)?;
@@ -313,7 +313,7 @@ fn put_field_of(out: &mut Vec<u8>, rule: &Rule, field: FieldName) -> Result<(), 
 
 /// Appends the note and the audit of a rule, and the empty line behind its table.
 #[tactic(auto, unfolding(crate::specs::Listing::last_text))]
-fn put_last(out: &mut Vec<u8>, said: &Said<'_>) -> Result<(), AllocError>
+fn put_last(out: &mut Vec<u8>, said: &RuleComment<'_>) -> Result<(), AllocError>
     ensures { OnOk result (out.new.items ≡ out.old.items ++ last_text said.now.note.now said.now.audit) }
 {
     put_note(out, said.note)?;

@@ -10,7 +10,7 @@ use Rattle.gw_core.proofs.HistoryLemmas.{announce_after, ports_stay}
 use Rattle.gw_replay.proofs.ReplayLemmas.{are_length, are_more}
 use Rattle.gw_configuration.specs.Configuration.{Configuration}
 use Rattle.gw_replay.specs.Decisions.{AreCountedFrom, AreFirst, BeginsWithNone, IsNext, IsReport, entry_asked, fresh}
-use Rattle.gw_replay.specs.Entry.{AreEntries, Announces, Comes, Entry, IsEntry, events_among, moved_by}
+use Rattle.gw_replay.specs.Entry.{AreEntries, Announces, Comes, ScriptEntry, IsEntry, events_among, moved_by}
 use Rattle.gw_script.specs.Reader.{BeginsLong}
 use Rattle.gw_script.specs.Script.{lines_of}
 use Rattle.gw_decisions.specs.tally.Tally.{IsTally, one_more, place_of, tally_text}
@@ -18,7 +18,7 @@ use Rattle.gw_decisions.specs.Counted.{AreCounted, counted_on}
 
 -- these lines are done, the asks of their events are counted, and this text is left
 pub record Progress (announces : Bool) (ports : ℕ) (start : State) (script first : List ℕ) (known : Option (List ℕ)) (w : State) (counts : List ℕ) : Type 0 where
-  pub entries : List Entry
+  pub entries : List ScriptEntry
   pub done : List (List ℕ)
   pub left : List ℕ
   pub are : AreEntries announces ports done entries
@@ -28,7 +28,7 @@ pub record Progress (announces : Bool) (ports : ℕ) (start : State) (script fir
   pub counted : AreCounted first (run_asked start (events_among entries)) counts
 
 -- a line that is too long writes nothing
-long_writes_none : (announces : Bool) (ports : ℕ) (line : List ℕ) (e : Entry) → 4096 < length line → IsEntry announces ports line e → ⊥
+long_writes_none : (announces : Bool) (ports : ℕ) (line : List ℕ) (e : ScriptEntry) → 4096 < length line → IsEntry announces ports line e → ⊥
 long_writes_none announces ports line (Comes e) long is = omega (arith, long, is.most)
 long_writes_none announces ports line Announces long is = omega (arith, long, ap length is.1)
 
@@ -40,7 +40,7 @@ pub no_lines : (announces : Bool) (ports : ℕ) (text : List ℕ) → lines_of t
 no_lines announces ports text none = subst (λ (l : List (List ℕ)). BeginsWithNone announces ports l) (sym none) tt
 
 -- one line more asks what it asks
-asked_more : (w : State) (l : List Entry) (e : Entry)
+asked_more : (w : State) (l : List ScriptEntry) (e : ScriptEntry)
     → run_asked w (events_among (l ++ e ∷ [])) ≡ run_asked w (events_among l) ++ entry_asked (state_from w (events_among l)) e
 unfolding run_asked state_from
 asked_more w [] (Comes e) = append-nil (asked_at w e)
@@ -51,7 +51,7 @@ asked_more w (Comes x ∷ l) e =
 asked_more w (Announces ∷ l) e = asked_more w l e
 
 -- and leads on to the state after it
-moved_more : (w : State) (l : List Entry) (e : Entry)
+moved_more : (w : State) (l : List ScriptEntry) (e : ScriptEntry)
     → moved_by (state_from w (events_among l)) e ≡ state_from w (events_among (l ++ e ∷ []))
 unfolding state_from
 moved_more w [] (Comes e) = refl

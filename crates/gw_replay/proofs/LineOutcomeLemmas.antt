@@ -5,11 +5,11 @@ use Rattle.gw_replay.specs.declared.replaying.RunFault.TheVariants.{Memory, Coun
 use Rattle.gw_core.specs.State.{State}
 use Rattle.gw_script.specs.Flaw.{IsFlaw}
 use Rattle.gw_script.specs.declared.flaw.LineFlaw.{LineFlaw}
-use Rattle.gw_replay.specs.Entry.{Entry, IsEntry}
+use Rattle.gw_replay.specs.Entry.{ScriptEntry, IsEntry}
 use Rattle.gw_replay.specs.internal.LineOutcome.{LineOutcome, MemoryWant, PassesEnd}
 use Rattle.gw_replay.specs.Replay.{EventText}
 
-pub same_line : (x y : Bool) (p q : ℕ) (a b : List ℕ) (e : Entry) → x ≡ y → p ≡ q → a ≡ b → IsEntry y q b e → IsEntry x p a e
+pub same_line : (x y : Bool) (p q : ℕ) (a b : List ℕ) (e : ScriptEntry) → x ≡ y → p ≡ q → a ≡ b → IsEntry y q b e → IsEntry x p a e
 same_line x y p q a b e announces ports lines is =
     subst (λ (l : List ℕ). IsEntry x p l e) (sym lines)
     (subst (λ (n : ℕ). IsEntry x n b e) (sym ports) (subst (λ (z : Bool). IsEntry z q b e) (sym announces) is))

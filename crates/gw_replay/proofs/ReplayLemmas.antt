@@ -10,7 +10,7 @@ use Rattle.gw_configuration.specs.Configuration.{Configuration}
 use Rattle.gw_core.specs.State.{State}
 use Rattle.gw_core.specs.Effects.{passes_end}
 use Rattle.gw_core.specs.History.{run_after, effects, IsStateAfter, state_after, no_counts}
-use Rattle.gw_replay.specs.Entry.{AreEntries, Announces, Comes, Entry, IsEntry, MayWantMemory, PassesEndAt, entries_of, events_among, history_by, history_with, moved_by}
+use Rattle.gw_replay.specs.Entry.{AreEntries, Announces, Comes, ScriptEntry, IsEntry, MayWantMemory, PassesEndAt, entries_of, events_among, history_by, history_with, moved_by}
 use Rattle.gw_replay.specs.Laws.{AnnouncementsChangeNothing, RunsAreWritten, UnannouncedAreEvents}
 use Rattle.gw_script.specs.Script.{lines_of, IsLine, AreLines}
 use Rattle.gw_replay.specs.Shown.{event_text, text_of_run, effects_text}
@@ -23,13 +23,13 @@ use Rattle.gw_script.proofs.Passing.{Passes, passes_on}
 use Rattle.gw_script.specs.declared.flaw.LineFlaw.{LineFlaw}
 use Rattle.gw_core.proofs.HistoryLemmas.{after_next, announce_after, ports_stay}
 
-pub taken_more : (h : List Event) (l : List Entry) (e : Entry) → history_by h (l ++ e ∷ []) ≡ history_with (history_by h l) e
+pub taken_more : (h : List Event) (l : List ScriptEntry) (e : ScriptEntry) → history_by h (l ++ e ∷ []) ≡ history_with (history_by h l) e
 unfolding history_by
 taken_more h [] e = refl
 taken_more h (x ∷ l) e = taken_more (history_with h x) l e
 
 -- the text goes on by that of one event more
-text_more : (wording : EventText) (c : Configuration) (h : List Event) (l : List Entry) (e : Entry)
+text_more : (wording : EventText) (c : Configuration) (h : List Event) (l : List ScriptEntry) (e : ScriptEntry)
     → text_after wording c h (l ++ e ∷ []) ≡ text_after wording c h l ++ entry_text wording (state_after c no_counts (history_by h l)) e
 unfolding text_after history_by
 text_more wording c h [] e = append-nil (entry_text wording (state_after c no_counts h) e)
@@ -38,7 +38,7 @@ text_more wording c h (x ∷ l) e =
     ∙ sym (append_assoc (entry_text wording (state_after c no_counts h) x) (text_after wording c (history_with h x) l)
     (entry_text wording (state_after c no_counts (history_by (history_with h x) l)) e))
 
-pub run_text_more : (wording : EventText) (c : Configuration) (l : List Entry) (e : Entry)
+pub run_text_more : (wording : EventText) (c : Configuration) (l : List ScriptEntry) (e : ScriptEntry)
     → run_text wording c (l ++ e ∷ []) ≡ run_text wording c l ++ entry_text wording (played c l) e
 run_text_more wording c l e = text_more wording c [] l e
 
@@ -53,14 +53,14 @@ effects_told c h (e ∷ l) =
 pub runs_are_told : RunsAreWritten
 runs_are_told c l = effects_told c [] l
 
-pub are_more : (a : Bool) (ports : ℕ) (lines : List (List ℕ)) (entries : List Entry) (line : List ℕ) (e : Entry)
+pub are_more : (a : Bool) (ports : ℕ) (lines : List (List ℕ)) (entries : List ScriptEntry) (line : List ℕ) (e : ScriptEntry)
     → AreEntries a ports lines entries → IsEntry a ports line e → AreEntries a ports (lines ++ line ∷ []) (entries ++ e ∷ [])
 are_more a ports [] [] line e are is = (is, tt)
 are_more a ports [] (x ∷ entries) line e are is = absurd are
 are_more a ports (l ∷ lines) [] line e are is = absurd are
 are_more a ports (l ∷ lines) (x ∷ entries) line e are is = (are.0, are_more a ports lines entries line e are.1 is)
 
-pub are_length : (a : Bool) (ports : ℕ) (lines : List (List ℕ)) (entries : List Entry) → AreEntries a ports lines entries
+pub are_length : (a : Bool) (ports : ℕ) (lines : List (List ℕ)) (entries : List ScriptEntry) → AreEntries a ports lines entries
     → length lines ≡ length entries
 are_length a ports [] [] are = refl
 are_length a ports [] (x ∷ entries) are = absurd are
@@ -76,10 +76,10 @@ unannounced_are_events ports [] (x ∷ entries) are = absurd are
 unannounced_are_events ports (l ∷ lines) [] are = absurd are
 unannounced_are_events ports (l ∷ lines) (Comes e ∷ entries) are =
     let later = unannounced_are_events ports lines entries are.1 in
-    ((are.0, later.0), ap (λ (x : List Entry). Comes e ∷ x) later.1)
+    ((are.0, later.0), ap (λ (x : List ScriptEntry). Comes e ∷ x) later.1)
 unannounced_are_events ports (l ∷ lines) (Announces ∷ entries) are = absurd (true≢false (sym are.0.0))
 
-same_history : (h : List Event) (entries : List Entry) → history_by h entries ≡ history_by h (entries_of (events_among entries))
+same_history : (h : List Event) (entries : List ScriptEntry) → history_by h entries ≡ history_by h (entries_of (events_among entries))
 unfolding history_by
 same_history h [] = refl
 same_history h (Comes e ∷ entries) = same_history (e ∷ h) entries
@@ -90,7 +90,7 @@ announcements_change_nothing c entries = ap (state_after c no_counts) (same_hist
 
 -- how far a replay has come: these lines are done, which write these, and this text is left
 pub record Progress (wording : EventText) (c : Configuration) (script before : List ℕ) (n : ℕ) (w : State) (text written : Option (List ℕ)) : Type 0 where
-  pub entries : List Entry
+  pub entries : List ScriptEntry
   pub done : List (List ℕ)
   pub left : List ℕ
   pub are : AreEntries c.announce (length c.ports) done entries
@@ -104,14 +104,14 @@ pub record Progress (wording : EventText) (c : Configuration) (script before : L
 abbrev pub Turns : EventText → ℕ → State → State → Option (List ℕ) → Option (List ℕ) → Option (List ℕ) → Option (List ℕ) → Result Bool RunFault → Type 0
 Turns wording n w moved text left written after r = (t b : List ℕ) → text ≡ Some t → written ≡ Some b → LineOutcome wording n w moved t left b after r
 
-first_lines : (c : Configuration) (script : List ℕ) (done others : List (List ℕ)) (entries : List Entry)
+first_lines : (c : Configuration) (script : List ℕ) (done others : List (List ℕ)) (entries : List ScriptEntry)
     → AreEntries c.announce (length c.ports) done entries → lines_of script ≡ done ++ others → FirstLines c script entries
 first_lines c script done others entries are lines =
     let front : take (length entries) (lines_of script) ≡ done = ap (take (length entries)) lines
     ∙ take_at done others (length entries) (are_length c.announce (length c.ports) done entries are) in
     subst (λ (l : List (List ℕ)). AreEntries c.announce (length c.ports) l entries) (sym front) are
 
-other_lines : (c : Configuration) (script : List ℕ) (done others : List (List ℕ)) (entries : List Entry)
+other_lines : (c : Configuration) (script : List ℕ) (done others : List (List ℕ)) (entries : List ScriptEntry)
     → AreEntries c.announce (length c.ports) done entries → lines_of script ≡ done ++ others → drop (length entries) (lines_of script) ≡ others
 other_lines c script done others entries are lines = ap (drop (length entries)) lines
     ∙ drop_at done others (length entries) (are_length c.announce (length c.ports) done entries are)
@@ -122,19 +122,19 @@ same_ports c w h stands = ap (λ (x : State). length x.relay.ports) stands ∙ p
 same_announce : (c : Configuration) (w : State) (h : List Event) → IsStateAfter w c no_counts h → w.relay.announce ≡ c.announce
 same_announce c w h stands = ap (λ (x : State). x.relay.announce) stands ∙ announce_after c no_counts h
 
-on_ports : (c : Configuration) (w : State) (h : List Event) (line : List ℕ) (e : Entry) → IsStateAfter w c no_counts h
+on_ports : (c : Configuration) (w : State) (h : List Event) (line : List ℕ) (e : ScriptEntry) → IsStateAfter w c no_counts h
     → IsEntry w.relay.announce (length w.relay.ports) line e → IsEntry c.announce (length c.ports) line e
 on_ports c w h line e stands is =
     subst (λ (a : Bool). IsEntry a (length c.ports) line e) (same_announce c w h stands)
     (subst (λ (p : ℕ). IsEntry w.relay.announce p line e) (same_ports c w h stands) is)
 
 -- an entry more leads on to the state after it
-after_entry : (w moved : State) (c : Configuration) (h : List Event) (e : Entry) → moved ≡ moved_by w e → IsStateAfter w c no_counts h
+after_entry : (w moved : State) (c : Configuration) (h : List Event) (e : ScriptEntry) → moved ≡ moved_by w e → IsStateAfter w c no_counts h
     → IsStateAfter moved c no_counts (history_with h e)
 after_entry w moved c h (Comes e) is stands = after_next w moved c no_counts h e is stands
 after_entry w moved c h Announces is stands = is ∙ stands
 
-told_on : (wording : EventText) (c : Configuration) (w : State) (before : List ℕ) (entries : List Entry) (e : Entry)
+told_on : (wording : EventText) (c : Configuration) (w : State) (before : List ℕ) (entries : List ScriptEntry) (e : ScriptEntry)
     → IsStateAfter w c no_counts (history_by [] entries)
     → (before ++ run_text wording c entries) ++ entry_text wording w e ≡ before ++ run_text wording c (entries ++ e ∷ [])
 told_on wording c w before entries e stands =
@@ -268,7 +268,7 @@ flaw_at_line wording c script before n w moved text left written after m flaw p 
     })
 
 -- what would pass the end of a count is an event
-past_end : (a : Bool) (ports : ℕ) (line : List ℕ) (w : State) (entry : Entry) → IsEntry a ports line entry → PassesEndAt w entry
+past_end : (a : Bool) (ports : ℕ) (line : List ℕ) (w : State) (entry : ScriptEntry) → IsEntry a ports line entry → PassesEndAt w entry
     → (e : Event) × IsLine ports line e × (passes_end w e ≡ true)
 past_end a ports line w (Comes e) is passes = (e, is, passes)
 past_end a ports line w Announces is passes = absurd passes

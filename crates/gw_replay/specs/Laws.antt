@@ -10,7 +10,7 @@ use Rattle.gw_core.specs.Explained.{ask_line, ask_lines}
 use Rattle.gw_core.specs.History.{no_counts, run}
 use Rattle.gw_core.specs.Receive.{origin, receive}
 use Rattle.gw_core.specs.State.{State}
-use Rattle.gw_replay.specs.Entry.{AreEntries, Entry, entries_of, events_among}
+use Rattle.gw_replay.specs.Entry.{AreEntries, ScriptEntry, entries_of, events_among}
 use Rattle.gw_replay.specs.Replay.{played, run_text}
 use Rattle.gw_script.specs.Script.{AreLines}
 use Rattle.gw_replay.specs.Shown.{event_text, text_of_run}
@@ -23,13 +23,13 @@ RunsAreWritten = (c : Configuration) (l : List Event) → run_text event_text c 
 -- nothing exactly if it writes no event.
 abbrev pub UnannouncedAreEvents : Type 0
 UnannouncedAreEvents =
-    (ports : ℕ) (lines : List (List ℕ)) (entries : List Entry) → AreEntries false ports lines entries
+    (ports : ℕ) (lines : List (List ℕ)) (entries : List ScriptEntry) → AreEntries false ports lines entries
     → AreLines ports lines (events_among entries) × (entries ≡ entries_of (events_among entries))
 
 -- An announcement leaves the gateway as it is: what comes after it is done as if it weren't there.
 abbrev pub AnnouncementsChangeNothing : Type 0
 AnnouncementsChangeNothing =
-    (c : Configuration) (entries : List Entry) → played c entries ≡ played c (entries_of (events_among entries))
+    (c : Configuration) (entries : List ScriptEntry) → played c entries ≡ played c (entries_of (events_among entries))
 
 -- The lines of those asks of an event that the policy denies, but by quiet rules, are those of its denials, in order.
 abbrev pub DeniedLinesAreLogged : Type 0

@@ -11,7 +11,7 @@ ghost use Rattle.gw_script.specs.Event.{event_view};
 ghost use Rattle.gw_decisions.specs.tally.Tally.{IsTally, tally_text};
 ghost use Rattle.gw_decisions.specs.Counted.{AreCounted};
 
-use crate::entry::{Entry, parse_entry};
+use crate::entry::{ScriptEntry, parse_entry};
 use gw_configuration::Config;
 use gw_core::{Counts, Event, Gateway, SeenBy, Unguarded, take_event};
 use gw_decisions::count_asked;
@@ -25,7 +25,7 @@ pub(crate) struct Uncounted;
 
 /// What is kept from line to line.
 #[derive(Drop)]
-struct Counting {
+struct ScriptCounting {
     gateway: Gateway,
     lines: LineReader,
     datagram: [u8; MAX_DATAGRAM],
@@ -43,7 +43,7 @@ pub fn count_script<R: OctetSource>(
     ensures { (script : List ℕ) → R.left reader.old ≡ Some script →
         IfSome result (λ text. IsReport config script text.items) }
 {
-    let Ok(mut counting) = Counting::new(alloc, config) else {
+    let Ok(mut counting) = ScriptCounting::new(alloc, config) else {
         return None;
     };
     let ports = counting.gateway.ports();
@@ -80,7 +80,7 @@ fn count_event(
 fn count_entry(
     alloc: Global,
     gateway: &mut Gateway,
-    entry: &Entry<'_>,
+    entry: &ScriptEntry<'_>,
     tally: &mut Tally,
 ) -> Result<(), Uncounted>
     ensures moved { OnOk result (gateway.new ≡ moved_by gateway.old (entry_view entry.now)) }
@@ -89,14 +89,14 @@ fn count_entry(
     ensures places { length tally.new ≡ length tally.old }
 {
     match entry {
-        Entry::Comes(event) => count_event(alloc, gateway, event, tally),
-        Entry::Announces => Ok(()),
+        ScriptEntry::Comes(event) => count_event(alloc, gateway, event, tally),
+        ScriptEntry::Announces => Ok(()),
     }
 }
 
-impl Counting {
+impl ScriptCounting {
     /// Nothing is counted yet, in a fresh gateway. An `Err` only if a growth of memory was refused.
-    fn new(alloc: Global, config: Config) -> Result<Counting, AllocError>
+    fn new(alloc: Global, config: Config) -> Result<ScriptCounting, AllocError>
         ensures state { IfOk result (λ counting. counting.gateway ≡ fresh config) }
         ensures unread { IfOk result (λ counting. counting.lines.unread ≡ []) }
         ensures none { IfOk result (λ counting. IsTally config.rules [] counting.tally) }
@@ -107,7 +107,7 @@ impl Counting {
         };
         let gateway = Gateway::new(alloc, config, counts)?;
         let tally = Tally::new(alloc, gateway.rules())?;
-        Ok(Counting {
+        Ok(ScriptCounting {
             gateway,
             lines: LineReader::new(),
             datagram: [0; MAX_DATAGRAM],

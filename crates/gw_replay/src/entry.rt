@@ -3,14 +3,14 @@
 ghost use Rattle.std.specs.Prelude.{◌≡◌, ◌≤◌, IfSome, IsNone, codes, length};
 ghost use Rattle.std.specs.Bool.{OnFalse, OnTrue};
 ghost use Rattle.gw_addr.specs.declared.TheConstants.{MAX_PORTS};
-ghost use Rattle.gw_replay.specs.Entry.{Entry as PlainEntry, IsEntry, entry_view};
+ghost use Rattle.gw_replay.specs.Entry.{ScriptEntry as PlainEntry, IsEntry, entry_view};
 
 use gw_core::{Event, Gateway};
 use gw_script::{MAX_DATAGRAM, SpelledAddr, parse_spelled};
 
 /// What a line writes.
 #[derive(Clone, Copy)]
-pub(crate) enum Entry<'a> {
+pub(crate) enum ScriptEntry<'a> {
     /// An event.
     Comes(Event<'a>),
     /// `announce`, which is no event: the gateway announces itself on each port.
@@ -25,17 +25,17 @@ pub(crate) fn parse_entry<'a, 'b>(
     ports: u8,
     line: &'b [u8],
     buffer: &'a mut [u8; MAX_DATAGRAM],
-) -> Option<(Entry<'a>, Option<SpelledAddr<'b>>)>
+) -> Option<(ScriptEntry<'a>, Option<SpelledAddr<'b>>)>
     requires ports { ports ≤ MAX_PORTS }
     requires most { length line.now ≤ 4096 }
     ensures found { IfSome result (λ x. IsEntry announces ports line.now (entry_view x.0)) }
     ensures only { IsNone result → (e : PlainEntry) → ¬ (IsEntry announces ports line.now e) }
 {
     if let Some((event, sender)) = parse_spelled(ports, line, buffer) {
-        return Some((Entry::Comes(event), sender));
+        return Some((ScriptEntry::Comes(event), sender));
     }
     if announces && is_announce(line) {
-        return Some((Entry::Announces, None));
+        return Some((ScriptEntry::Announces, None));
     }
     None
 }
@@ -47,7 +47,7 @@ pub(crate) fn parse_entry_for<'a, 'b>(
     ports: u8,
     line: &'b [u8],
     buffer: &'a mut [u8; MAX_DATAGRAM],
-) -> Option<(Entry<'a>, Option<SpelledAddr<'b>>)>
+) -> Option<(ScriptEntry<'a>, Option<SpelledAddr<'b>>)>
     requires ports { ports ≤ MAX_PORTS }
     requires most { length line.now ≤ 4096 }
     ensures found { let announces = gateway.now.relay.announce in
@@ -56,10 +56,10 @@ pub(crate) fn parse_entry_for<'a, 'b>(
         ¬ (IsEntry gateway.now.relay.announce ports line.now e) }
 {
     if let Some((event, sender)) = parse_spelled(ports, line, buffer) {
-        return Some((Entry::Comes(event), sender));
+        return Some((ScriptEntry::Comes(event), sender));
     }
     if is_announce(line) && gateway.announces() {
-        return Some((Entry::Announces, None));
+        return Some((ScriptEntry::Announces, None));
     }
     None
 }

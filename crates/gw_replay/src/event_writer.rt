@@ -11,7 +11,7 @@ ghost use Rattle.gw_replay.specs.declared.replaying.RunFault.TheVariants.{Memory
 ghost use Rattle.gw_replay.specs.internal.LineOutcome.{IsEntryFault, IsEventFault};
 ghost use Rattle.gw_replay.specs.Shown.{announced_text, effects_text, event_text};
 
-use crate::entry::Entry;
+use crate::entry::ScriptEntry;
 use crate::replaying::RunFault;
 use crate::shown::{append_announcements, append_effects};
 use gw_core::{
@@ -206,7 +206,7 @@ impl EventText for Explaining {
 pub(crate) fn make_entry_text<T: EventText>(
     event_writer: &mut T,
     gateway: &mut Gateway,
-    entry: &Entry<'_>,
+    entry: &ScriptEntry<'_>,
     sender: &Option<SpelledAddr<'_>>,
     text: &mut Vec<u8>,
 ) -> Result<(), RunFault>
@@ -218,8 +218,8 @@ pub(crate) fn make_entry_text<T: EventText>(
     ensures capacity { vec_capacity text.old ≤ vec_capacity text.new }
 {
     match entry {
-        Entry::Comes(event) => event_writer.make_text(gateway, event, sender, text),
-        Entry::Announces => make_announced_text(event_writer.alloc(), gateway, text),
+        ScriptEntry::Comes(event) => event_writer.make_text(gateway, event, sender, text),
+        ScriptEntry::Announces => make_announced_text(event_writer.alloc(), gateway, text),
     }
 }
 

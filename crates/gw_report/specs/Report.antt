@@ -30,7 +30,7 @@ use Rattle.gw_report.specs.declared.passing.Extent.{Extent}
 use Rattle.gw_report.specs.declared.passing.Extent.TheVariants as extent
 use Rattle.gw_report.specs.declared.access.Whence.{Whence}
 use Rattle.gw_report.specs.declared.access.Whence.TheVariants.{Port, Beyond}
-use Rattle.gw_report.specs.declared.page.element.Element.TheVariants as element
+use Rattle.gw_report.specs.declared.page.element.PageElement.TheVariants as element
 use Rattle.gw_report.specs.declared.page.mark.Mark.TheVariants as mark
 use Rattle.gw_report.specs.page.Elements.{begin_text, close_text, element_text, number_cell, open_text}
 use Rattle.gw_report.specs.page.Escape.{escaped}

@@ -9,7 +9,7 @@ ghost use Rattle.gw_report.specs.Report.{operation_head, own_from, own_of, row_t
 ghost use Rattle.gw_ask_sets.specs.shapes.Shapes.{shapes};
 ghost use Rattle.gw_report.specs.page.Elements.{element_text};
 
-use crate::page::{Element, Page};
+use crate::page::{Page, PageElement};
 use crate::passing::{Cell, Extent, TABLE_STEPS, cell_of};
 use gw_addr::put_decimal;
 use gw_ask_sets::shapes::{Shape, shapes_of};
@@ -178,10 +178,10 @@ fn put_whole_row(
 ) -> Result<(), AllocError>
     ensures { OnOk result (page.new ≡ page.old ++ row_text whence cells.now) }
 {
-    page.open(Element::Row)?;
+    page.open(PageElement::Row)?;
     put_whence(alloc, page, whence)?;
     page.append(cells)?;
-    page.close(Element::Row)
+    page.close(PageElement::Row)
 }
 
 /// Who may do what under a configuration: the table.
@@ -198,7 +198,7 @@ pub(crate) fn access_of(alloc: Global, config: &Config) -> Result<Page, AllocErr
 fn put_access(page: &mut Page, table: &Page) -> Result<(), AllocError>
     ensures { OnOk result (page.new ≡ page.old ++ access_text table.now) }
 {
-    page.element(Element::Heading, "Who may do what")?;
+    page.element(PageElement::Heading, "Who may do what")?;
     put_legend(page)?;
     page.append(table)
 }
@@ -207,7 +207,7 @@ fn put_legend(page: &mut Page) -> Result<(), AllocError>
     ensures { OnOk result (page.new ≡ page.old ++ legend_text) }
 {
     page.element(
-        Element::Aside,
+        PageElement::Aside,
         "Each row is a network from which asks come, each column an operation. all: each such ask is allowed; \
         some: one is allowed, and one denied; none: each is denied; some?: not known, since the search used up its steps; \
         a dash: the gateway raises no such ask.",
@@ -243,11 +243,11 @@ fn whole_table(alloc: Global, table: &Table<'_>) -> Result<Page, AllocError>
 fn put_table(page: &mut Page, rows: &Page, last: &Page) -> Result<(), AllocError>
     ensures { OnOk result (page.new ≡ page.old ++ table_text rows.now last.now) }
 {
-    page.open(Element::Table)?;
+    page.open(PageElement::Table)?;
     put_head(page)?;
     page.append(rows)?;
     page.append(last)?;
-    page.close(Element::Table)
+    page.close(PageElement::Table)
 }
 
 /// The networks of the ports.
@@ -276,10 +276,10 @@ fn own_at(place: usize, port: &Port) -> Whence
 fn put_head(page: &mut Page) -> Result<(), AllocError>
     ensures { OnOk result (page.new ≡ page.old ++ access_head) }
 {
-    page.open(Element::Row)?;
-    page.element(Element::Head, "from")?;
+    page.open(PageElement::Row)?;
+    page.element(PageElement::Head, "from")?;
     put_operations(page)?;
-    page.close(Element::Row)
+    page.close(PageElement::Row)
 }
 
 fn put_operations(page: &mut Page) -> Result<(), AllocError>
@@ -295,16 +295,16 @@ fn put_operations(page: &mut Page) -> Result<(), AllocError>
 fn put_operation(page: &mut Page, operation: Operation) -> Result<(), AllocError>
     ensures { OnOk result (page.new ≡ page.old ++ operation_head operation) }
 {
-    page.element(Element::Head, operation.name())
+    page.element(PageElement::Head, operation.name())
 }
 
 /// Appends whence asks come.
 fn put_whence(alloc: Global, page: &mut Page, whence: Whence) -> Result<(), AllocError>
-    ensures { OnOk result (page.new ≡ page.old ++ element_text Element.Head (whence_text whence)) }
+    ensures { OnOk result (page.new ≡ page.old ++ element_text PageElement.Head (whence_text whence)) }
 {
     let mut text = Vec::new(alloc);
     put_words(&mut text, whence)?;
-    page.octets_element(Element::Head, &text)
+    page.octets_element(PageElement::Head, &text)
 }
 
 #[tactic(auto, unfolding(crate::specs::Report::whence_text))]
@@ -333,11 +333,11 @@ fn put_extent(page: &mut Page, extent: Option<Extent>) -> Result<(), AllocError>
     ensures { OnOk result (page.new ≡ page.old ++ extent_cell extent) }
 {
     match extent {
-        None => page.element(Element::Cell, "-"),
-        Some(Extent::Nothing) => page.element(Element::Nothing, "none"),
-        Some(Extent::Some) => page.element(Element::Some, "some"),
-        Some(Extent::All) => page.element(Element::All, "all"),
-        Some(Extent::Unknown) => page.element(Element::Some, "some?"),
+        None => page.element(PageElement::Cell, "-"),
+        Some(Extent::Nothing) => page.element(PageElement::Nothing, "none"),
+        Some(Extent::Some) => page.element(PageElement::Some, "some"),
+        Some(Extent::All) => page.element(PageElement::All, "all"),
+        Some(Extent::Unknown) => page.element(PageElement::Some, "some?"),
     }
 }
 
@@ -360,9 +360,9 @@ fn put_lines(
     let Ok(text) = str::from_utf8(&octets) else {
         return Ok(());
     };
-    page.open(Element::List)?;
+    page.open(PageElement::List)?;
     for line in text.lines() {
-        page.element(Element::Item, line)?;
+        page.element(PageElement::Item, line)?;
     }
-    page.close(Element::List)
+    page.close(PageElement::List)
 }

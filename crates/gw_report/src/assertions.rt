@@ -5,7 +5,7 @@ ghost use Rattle.gw_script.specs.Order.{in_order};
 ghost use Rattle.gw_report.specs.Report.{asserted_cell, assertion_cells, assertion_row, assertions_columns, assertions_head};
 ghost use Rattle.gw_report.specs.Report.{assertions_table, assertions_text, broken_cell, broken_words, judged_at, judged_cell, rule_name};
 
-use crate::page::{Element, Page};
+use crate::page::{Page, PageElement};
 use gw_ask_sets::assertions::Judged;
 use gw_configuration::{Assertion, Config};
 use gw_rules::{NO_RULE, Rule};
@@ -34,31 +34,31 @@ fn put_table(
 ) -> Result<(), AllocError>
     ensures { OnOk result (page.new ≡ page.old ++ assertions_table rules.now judged.now assertions.now) }
 {
-    page.element(Element::Heading, "Assertions")?;
-    page.open(Element::Table)?;
+    page.element(PageElement::Heading, "Assertions")?;
+    page.open(PageElement::Table)?;
     put_head(page)?;
     put_rows(page, rules, judged, assertions)?;
-    page.close(Element::Table)
+    page.close(PageElement::Table)
 }
 
 #[tactic(auto, unfolding(crate::specs::Report::assertions_head))]
 fn put_head(page: &mut Page) -> Result<(), AllocError>
     ensures { OnOk result (page.new ≡ page.old ++ assertions_head) }
 {
-    page.open(Element::Row)?;
+    page.open(PageElement::Row)?;
     put_columns(page)?;
-    page.close(Element::Row)
+    page.close(PageElement::Row)
 }
 
 #[tactic(auto, unfolding(crate::specs::Report::assertions_columns))]
 fn put_columns(page: &mut Page) -> Result<(), AllocError>
     ensures { OnOk result (page.new ≡ page.old ++ assertions_columns) }
 {
-    page.element(Element::Head, "")?;
-    page.element(Element::Head, "name")?;
-    page.element(Element::Head, "is to be")?;
-    page.element(Element::Head, "is found")?;
-    page.element(Element::Head, "note")
+    page.element(PageElement::Head, "")?;
+    page.element(PageElement::Head, "name")?;
+    page.element(PageElement::Head, "is to be")?;
+    page.element(PageElement::Head, "is found")?;
+    page.element(PageElement::Head, "note")
 }
 
 fn put_rows(
@@ -86,12 +86,12 @@ fn put_row(
     requires { place < 2 ^ 64 - 1 }
     ensures { OnOk result (page.new ≡ page.old ++ assertion_row rules.now judged.now (place + 1) assertion.now) }
 {
-    page.open(Element::Row)?;
+    page.open(PageElement::Row)?;
     page.number_cell(place as u64 + 1)?;
     put_cells(page, assertion)?;
     put_judged(page, rules, judged_at(judged, place))?;
-    page.element(Element::Cell, assertion.note.as_str())?;
-    page.close(Element::Row)
+    page.element(PageElement::Cell, assertion.note.as_str())?;
+    page.close(PageElement::Row)
 }
 
 /// Appends the name of an assertion, and what it says of the asks that it means.
@@ -99,7 +99,7 @@ fn put_row(
 fn put_cells(page: &mut Page, assertion: &Assertion) -> Result<(), AllocError>
     ensures { OnOk result (page.new ≡ page.old ++ assertion_cells assertion.now) }
 {
-    page.element(Element::Cell, assertion.name.as_str())?;
+    page.element(PageElement::Cell, assertion.name.as_str())?;
     put_asserted(page, assertion.is_allowed)
 }
 
@@ -108,9 +108,9 @@ fn put_asserted(page: &mut Page, is_allowed: bool) -> Result<(), AllocError>
     ensures { OnOk result (page.new ≡ page.old ++ asserted_cell is_allowed) }
 {
     if is_allowed {
-        page.element(Element::Cell, "allowed")
+        page.element(PageElement::Cell, "allowed")
     } else {
-        page.element(Element::Cell, "denied")
+        page.element(PageElement::Cell, "denied")
     }
 }
 
@@ -129,14 +129,14 @@ fn put_judged(page: &mut Page, rules: &[Rule], judged: Judged) -> Result<(), All
     ensures { OnOk result (page.new ≡ page.old ++ judged_cell rules.now judged) }
 {
     match judged {
-        Judged::Holds => page.element(Element::All, "holds"),
+        Judged::Holds => page.element(PageElement::All, "holds"),
         Judged::Broken {
             ask: _,
             by,
             is_allowed,
         } => put_broken(page, rules, by, is_allowed),
-        Judged::Empty => page.element(Element::Nothing, "empty: no ask is meant"),
-        Judged::Unknown => page.element(Element::Some, "unknown"),
+        Judged::Empty => page.element(PageElement::Nothing, "empty: no ask is meant"),
+        Judged::Unknown => page.element(PageElement::Some, "unknown"),
     }
 }
 
@@ -150,10 +150,10 @@ fn put_broken(
 ) -> Result<(), AllocError>
     ensures { OnOk result (page.new ≡ page.old ++ broken_cell rules.now by is_allowed) }
 {
-    page.open(Element::Nothing)?;
+    page.open(PageElement::Nothing)?;
     put_broken_words(page, is_allowed)?;
     page.text(rule_name(rules, by))?;
-    page.close(Element::Nothing)
+    page.close(PageElement::Nothing)
 }
 
 #[tactic(auto, unfolding(crate::specs::Report::broken_words))]

@@ -17,15 +17,15 @@ pub(crate) struct Count<'a> {
 
 /// How often each label was counted, of at most [`MAX_LABELS`].
 #[derive(Drop)]
-pub(crate) struct Counts {
+pub(crate) struct LabelCounts {
     counts: BTreeMap<String, u64>,
     others: u64,
 }
 
-impl Counts {
+impl LabelCounts {
     /// Nothing is counted yet.
     pub(crate) fn new(alloc: Global) -> Self {
-        Counts {
+        LabelCounts {
             counts: BTreeMap::new(alloc),
             others: 0,
         }

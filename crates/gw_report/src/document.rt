@@ -12,7 +12,7 @@ use crate::access::{access_of, lines_of};
 use crate::assertions::put_assertions;
 use crate::fault::ReportFault;
 use crate::log::{Denials, read_log};
-use crate::page::{Element, Page};
+use crate::page::{Page, PageElement};
 use crate::plots::put_denials;
 use crate::rules::{Times, put_rules};
 use crate::site::put_site;
@@ -74,7 +74,7 @@ fn times_of(alloc: Global, config: &Config, denials: &Denials) -> Result<Times, 
 /// What is made before the page. Of the picture of the site, the lines that say who may do what, and the plots of what a log
 /// denied no more is said than that they are pages; the table of who may do what, and what is found of each assertion, are right.
 #[derive(Drop)]
-struct Parts {
+struct PageParts {
     picture: Page,
     access: Page,
     lines: Page,
@@ -87,7 +87,7 @@ fn parts_of(
     config: &Config,
     lines: &[u32],
     denials: Option<&Denials>,
-) -> Result<Parts, AllocError>
+) -> Result<PageParts, AllocError>
     ensures picture { IfOk result (λ parts. IsPage parts.picture) }
     ensures access { IfOk result (λ parts. IsAccess config.now parts.access) }
     ensures lines { IfOk result (λ parts. IsPage parts.lines) }
@@ -102,7 +102,7 @@ fn parts_of(
     picture.is_page();
     lines.is_page();
     plots.is_page();
-    Ok(Parts {
+    Ok(PageParts {
         picture,
         access,
         lines,
@@ -141,7 +141,7 @@ fn put_first(
     alloc: Global,
     page: &mut Page,
     config: &Config,
-    parts: &Parts,
+    parts: &PageParts,
 ) -> Result<(), AllocError>
     ensures { OnOk result (page.new ≡ page.old ++ first_text config.now parts.now.picture parts.now.access parts.now.lines) }
 {
@@ -167,7 +167,7 @@ fn put_last(
     alloc: Global,
     page: &mut Page,
     sources: &Sources<'_>,
-    parts: &Parts,
+    parts: &PageParts,
 ) -> Result<(), AllocError>
     ensures { OnOk result (page.new ≡ page.old ++ last_text sources.now.config.now sources.now.lines.now
         sources.now.times.now.are_shown sources.now.times.now.counts.items parts.now.judged.items parts.now.plots) }
@@ -203,7 +203,7 @@ fn put_head(alloc: Global, page: &mut Page, config: &Config) -> Result<(), Alloc
 {
     let title = title_of(alloc, config)?;
     page.begin(title.as_str())?;
-    page.element(Element::Title, title.as_str())?;
+    page.element(PageElement::Title, title.as_str())?;
     put_description(page, &config.device().description)?;
     put_sizes(page, config)
 }
@@ -224,18 +224,18 @@ fn put_description(page: &mut Page, description: &Text) -> Result<(), AllocError
     if description.as_str().is_empty() {
         return Ok(());
     }
-    page.element(Element::Paragraph, description.as_str())
+    page.element(PageElement::Paragraph, description.as_str())
 }
 
 #[tactic(auto, unfolding(crate::specs::Report::sizes_text))]
 fn put_sizes(page: &mut Page, config: &Config) -> Result<(), AllocError>
     ensures { OnOk result (page.new ≡ page.old ++ sizes_text config.now) }
 {
-    page.open(Element::Aside)?;
+    page.open(PageElement::Aside)?;
     put_ways(page, config)?;
     put_policy(page, config)?;
     put_announced(page, config.announces())?;
-    page.close(Element::Aside)
+    page.close(PageElement::Aside)
 }
 
 #[tactic(auto, unfolding(crate::specs::Report::ways_text))]
@@ -283,23 +283,23 @@ fn put_objects(page: &mut Page, objects: &[Object]) -> Result<(), AllocError>
 fn put_objects_table(page: &mut Page, objects: &[Object]) -> Result<(), AllocError>
     ensures { OnOk result (page.new ≡ page.old ++ objects_table objects.now) }
 {
-    page.element(Element::Heading, "Objects of the device")?;
-    page.open(Element::Table)?;
+    page.element(PageElement::Heading, "Objects of the device")?;
+    page.open(PageElement::Table)?;
     put_objects_head(page)?;
     put_each_object(page, objects)?;
-    page.close(Element::Table)
+    page.close(PageElement::Table)
 }
 
 #[tactic(auto, unfolding(crate::specs::Report::objects_head))]
 fn put_objects_head(page: &mut Page) -> Result<(), AllocError>
     ensures { OnOk result (page.new ≡ page.old ++ objects_head) }
 {
-    page.open(Element::Row)?;
-    page.element(Element::Head, "type")?;
-    page.element(Element::Head, "instance")?;
-    page.element(Element::Head, "name")?;
-    page.element(Element::Head, "description")?;
-    page.close(Element::Row)
+    page.open(PageElement::Row)?;
+    page.element(PageElement::Head, "type")?;
+    page.element(PageElement::Head, "instance")?;
+    page.element(PageElement::Head, "name")?;
+    page.element(PageElement::Head, "description")?;
+    page.close(PageElement::Row)
 }
 
 fn put_each_object(page: &mut Page, objects: &[Object]) -> Result<(), AllocError>
@@ -315,12 +315,12 @@ fn put_each_object(page: &mut Page, objects: &[Object]) -> Result<(), AllocError
 fn put_object(page: &mut Page, object: &Object) -> Result<(), AllocError>
     ensures { OnOk result (page.new ≡ page.old ++ object_row object.now) }
 {
-    page.open(Element::Row)?;
-    page.element(Element::Cell, type_name(object))?;
+    page.open(PageElement::Row)?;
+    page.element(PageElement::Cell, type_name(object))?;
     page.number_cell(u64::from(object.instance.get()))?;
-    page.element(Element::Cell, object.name.as_str())?;
-    page.element(Element::Cell, object.description.as_str())?;
-    page.close(Element::Row)
+    page.element(PageElement::Cell, object.name.as_str())?;
+    page.element(PageElement::Cell, object.description.as_str())?;
+    page.close(PageElement::Row)
 }
 
 /// The standard's name of the type of an object.

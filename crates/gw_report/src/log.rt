@@ -1,6 +1,6 @@
 //! What a log shows, counted.
 
-use crate::counts::Counts;
+use crate::counts::LabelCounts;
 use crate::fault::ReportFault;
 use crate::lines::{Line, split_line};
 use crate::words::{hour_label, object_label, source_label};
@@ -19,13 +19,13 @@ pub(crate) struct Denials {
     /// How many lines show none.
     pub unread: u64,
     /// How many there are in each hour.
-    pub hours: Counts,
+    pub hours: LabelCounts,
     /// By each rule.
-    pub rules: Counts,
+    pub rules: LabelCounts,
     /// Of each source.
-    pub sources: Counts,
+    pub sources: LabelCounts,
     /// For each object.
-    pub objects: Counts,
+    pub objects: LabelCounts,
 }
 
 impl Denials {
@@ -33,10 +33,10 @@ impl Denials {
         Denials {
             all: 0,
             unread: 0,
-            hours: Counts::new(alloc),
-            rules: Counts::new(alloc),
-            sources: Counts::new(alloc),
-            objects: Counts::new(alloc),
+            hours: LabelCounts::new(alloc),
+            rules: LabelCounts::new(alloc),
+            sources: LabelCounts::new(alloc),
+            objects: LabelCounts::new(alloc),
         }
     }
 
@@ -89,12 +89,12 @@ fn shown_in(line: &[u8]) -> Option<(&[u8], Shown<'_>)> {
 
 /// A log as far as it was read.
 #[derive(Drop)]
-struct Reading {
+struct LogReading {
     line: Line,
     denials: Denials,
 }
 
-impl Reading {
+impl LogReading {
     /// Counts the line that was read, and begins the next.
     fn end_line(&mut self, alloc: Global) -> Result<(), AllocError> {
         self.denials.add_line(alloc, self.line.octets())?;
@@ -130,7 +130,7 @@ pub(crate) fn read_log<R: OctetSource>(
     alloc: Global,
     reader: &mut R,
 ) -> Result<Denials, ReportFault> {
-    let mut reading = Reading {
+    let mut reading = LogReading {
         line: Line::new(alloc),
         denials: Denials::new(alloc),
     };
@@ -143,6 +143,6 @@ pub(crate) fn read_log<R: OctetSource>(
         reading.take(alloc, &octets[..count])?;
     }
     reading.end(alloc)?;
-    let Reading { line: _, denials } = reading;
+    let LogReading { line: _, denials } = reading;
     Ok(denials)
 }

@@ -9,7 +9,7 @@ pub mod laws;
 mod mark;
 mod page;
 
-pub use drawing::{Label, Place, Shape, Size};
-pub use element::Element;
+pub use drawing::{Label, PicturePlace, Shape, Size};
+pub use element::PageElement;
 pub use mark::Mark;
 pub use page::Page;

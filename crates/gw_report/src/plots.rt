@@ -1,8 +1,8 @@
 //! What a log denied, as plots of bars.
 
-use crate::counts::{Count, Counts};
+use crate::counts::{Count, LabelCounts};
 use crate::log::Denials;
-use crate::page::{Element, Label, Page, Place, Shape, Size};
+use crate::page::{Label, Page, PageElement, PicturePlace, Shape, Size};
 use itoa::Buffer;
 use std::alloc::{AllocError, Global};
 
@@ -25,7 +25,7 @@ pub(crate) fn put_denials(
     page: &mut Page,
     denials: &Denials,
 ) -> Result<(), AllocError> {
-    page.element(Element::Heading, "What was denied")?;
+    page.element(PageElement::Heading, "What was denied")?;
     put_sums(page, denials)?;
     if denials.all == 0 {
         return Ok(());
@@ -37,22 +37,22 @@ pub(crate) fn put_denials(
 }
 
 fn put_sums(page: &mut Page, denials: &Denials) -> Result<(), AllocError> {
-    page.open(Element::Paragraph)?;
+    page.open(PageElement::Paragraph)?;
     page.number(denials.all)?;
     page.text(" denials in the log; ")?;
     page.number(denials.unread)?;
     page.text(" lines that show none.")?;
-    page.close(Element::Paragraph)
+    page.close(PageElement::Paragraph)
 }
 
 /// Appends a plot of the hours, the first of those shown at the top.
-fn put_hours(alloc: Global, page: &mut Page, hours: &Counts) -> Result<(), AllocError> {
-    page.element(Element::Subheading, "By hour")?;
+fn put_hours(alloc: Global, page: &mut Page, hours: &LabelCounts) -> Result<(), AllocError> {
+    page.element(PageElement::Subheading, "By hour")?;
     let list = hours.in_order(alloc)?;
     let skipped = list.len().saturating_sub(MAX_HOURS);
     put_bars(page, list.get(skipped..).unwrap_or(&[]))?;
     page.element(
-        Element::Aside,
+        PageElement::Aside,
         "If a line has no date, its hour is one of the run, from 0.",
     )?;
     put_rest(page, skipped as u64, "earlier hours aren't shown.")?;
@@ -64,9 +64,9 @@ fn put_plot(
     alloc: Global,
     page: &mut Page,
     title: &str,
-    counts: &Counts,
+    counts: &LabelCounts,
 ) -> Result<(), AllocError> {
-    page.element(Element::Subheading, title)?;
+    page.element(PageElement::Subheading, title)?;
     let list = counts.by_count(alloc)?;
     let shown = list.len().min(MAX_ROWS);
     put_bars(page, list.get(..shown).unwrap_or(&[]))?;
@@ -87,11 +87,11 @@ fn put_rest(page: &mut Page, count: u64, words: &str) -> Result<(), AllocError> 
     if count == 0 {
         return Ok(());
     }
-    page.open(Element::Aside)?;
+    page.open(PageElement::Aside)?;
     page.number(count)?;
     page.text(" ")?;
     page.text(words)?;
-    page.close(Element::Aside)
+    page.close(PageElement::Aside)
 }
 
 fn put_bars(page: &mut Page, list: &[Count<'_>]) -> Result<(), AllocError> {
@@ -115,10 +115,10 @@ fn most_of(list: &[Count<'_>]) -> u64 {
 fn put_bar(page: &mut Page, top: u64, each: Count<'_>, most: u64) -> Result<(), AllocError> {
     let width = length_of(each.count, most);
     let base = top.saturating_add(14);
-    page.label(Label::Plain, Place { x: 0, y: base }, each.label)?;
+    page.label(Label::Plain, PicturePlace { x: 0, y: base }, each.label)?;
     page.draw(
         Shape::Bar,
-        Place {
+        PicturePlace {
             x: BAR,
             y: top.saturating_add(3),
         },
@@ -127,7 +127,7 @@ fn put_bar(page: &mut Page, top: u64, each: Count<'_>, most: u64) -> Result<(), 
     let x = BAR.saturating_add(width).saturating_add(6);
     page.label(
         Label::Light,
-        Place { x, y: base },
+        PicturePlace { x, y: base },
         Buffer::new().format(each.count),
     )
 }

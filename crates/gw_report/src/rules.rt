@@ -8,7 +8,7 @@ ghost use Rattle.gw_report.specs.Report.{fields_cell, is_bare, note_at, note_tex
 ghost use Rattle.gw_report.specs.Report.{rule_cells, rule_row, rules_columns, rules_head, rules_table, rules_text, times_cell};
 ghost use Rattle.gw_report.specs.page.Elements.{element_text};
 
-use crate::page::{Element, Page};
+use crate::page::{Page, PageElement};
 use gw_configuration::{Config, Text};
 use gw_policy_drafts::migration::put_field_items;
 use gw_policy_review::places::{is_derived, put_place};
@@ -53,7 +53,7 @@ impl Times {
         ensures { OnOk result (page.new ≡ page.old ++ count_cell quiet self.now.counts.items place) }
     {
         if quiet {
-            return page.element(Element::Cell, "not logged");
+            return page.element(PageElement::Cell, "not logged");
         }
         match self.counts.get(place) {
             Some(count) => page.number_cell(*count),
@@ -74,9 +74,9 @@ pub(crate) fn put_rules(
 ) -> Result<(), AllocError>
     ensures { OnOk result (page.new ≡ page.old ++ rules_text config.now lines.now times.now.are_shown times.now.counts.items) }
 {
-    page.element(Element::Heading, "Rules")?;
+    page.element(PageElement::Heading, "Rules")?;
     page.element(
-        Element::Aside,
+        PageElement::Aside,
         "The first rule that matches an ask decides it. If none matches, it is denied.",
     )?;
     put_table(alloc, page, config, lines, times)
@@ -92,11 +92,11 @@ fn put_table(
 ) -> Result<(), AllocError>
     ensures { OnOk result (page.new ≡ page.old ++ rules_table config.now lines.now times.now.are_shown times.now.counts.items) }
 {
-    page.open(Element::Table)?;
+    page.open(PageElement::Table)?;
     put_head(page, times.are_shown)?;
     put_rows(alloc, page, config, lines, times)?;
     put_default(page, times, config.rules().rules().len())?;
-    page.close(Element::Table)
+    page.close(PageElement::Table)
 }
 
 fn put_rows(
@@ -137,11 +137,11 @@ impl Row<'_> {
         ensures { OnOk result (page.new ≡ page.old ++ rule_row self.now.config.now self.now.lines.now times.now.are_shown
             times.now.counts.items self.now.number self.now.rule.now) }
     {
-        page.open(Element::Row)?;
+        page.open(PageElement::Row)?;
         page.number_cell(u64::from(self.number))?;
         self.put_cells(alloc, page)?;
         times.put(page, self.place(), self.rule.quiet)?;
-        page.close(Element::Row)
+        page.close(PageElement::Row)
     }
 
     /// Its place, from 0.
@@ -159,18 +159,18 @@ impl Row<'_> {
         self.put_name(alloc, page)?;
         put_decision(page, self.rule.allow, self.rule.quiet)?;
         put_fields(alloc, page, self.rule)?;
-        page.element(Element::Cell, self.note())
+        page.element(PageElement::Cell, self.note())
     }
 
     /// Appends a cell with its name, and the place of its table, if that has another number.
     fn put_name(&self, alloc: Global, page: &mut Page) -> Result<(), AllocError>
         ensures { OnOk result (page.new ≡ page.old
-            ++ element_text Element.Cell (placed_name self.now.config.now self.now.lines.now self.now.number self.now.rule.now)) }
+            ++ element_text PageElement.Cell (placed_name self.now.config.now self.now.lines.now self.now.number self.now.rule.now)) }
     {
         let mut name = Vec::new(alloc);
         name.extend_from_slice(self.rule.name.as_str().as_bytes())?;
         put_place(&mut name, self.config.tables(), self.lines, self.number)?;
-        page.octets_element(Element::Cell, &name)
+        page.octets_element(PageElement::Cell, &name)
     }
 
     /// Its note, or that it is for the way or for the answers of the rule before it.
@@ -199,21 +199,21 @@ fn note_at(notes: &[Text], place: usize) -> &str
 fn put_head(page: &mut Page, are_shown: bool) -> Result<(), AllocError>
     ensures { OnOk result (page.new ≡ page.old ++ rules_head are_shown) }
 {
-    page.open(Element::Row)?;
+    page.open(PageElement::Row)?;
     put_columns(page)?;
     put_counted(page, are_shown)?;
-    page.close(Element::Row)
+    page.close(PageElement::Row)
 }
 
 #[tactic(auto, unfolding(crate::specs::Report::rules_columns))]
 fn put_columns(page: &mut Page) -> Result<(), AllocError>
     ensures { OnOk result (page.new ≡ page.old ++ rules_columns) }
 {
-    page.element(Element::Head, "")?;
-    page.element(Element::Head, "name")?;
-    page.element(Element::Head, "decision")?;
-    page.element(Element::Head, "asks that it matches")?;
-    page.element(Element::Head, "note")
+    page.element(PageElement::Head, "")?;
+    page.element(PageElement::Head, "name")?;
+    page.element(PageElement::Head, "decision")?;
+    page.element(PageElement::Head, "asks that it matches")?;
+    page.element(PageElement::Head, "note")
 }
 
 #[tactic(auto, unfolding(crate::specs::Report::counted_head))]
@@ -221,7 +221,7 @@ fn put_counted(page: &mut Page, are_shown: bool) -> Result<(), AllocError>
     ensures { OnOk result (page.new ≡ page.old ++ counted_head are_shown) }
 {
     if are_shown {
-        page.element(Element::Head, "denials")
+        page.element(PageElement::Head, "denials")
     } else {
         Ok(())
     }
@@ -232,11 +232,11 @@ fn put_decision(page: &mut Page, allow: bool, quiet: bool) -> Result<(), AllocEr
     ensures { OnOk result (page.new ≡ page.old ++ decision_cell allow quiet) }
 {
     if allow {
-        page.element(Element::All, "allow")
+        page.element(PageElement::All, "allow")
     } else if quiet {
-        page.element(Element::Nothing, "deny (quiet)")
+        page.element(PageElement::Nothing, "deny (quiet)")
     } else {
-        page.element(Element::Nothing, "deny")
+        page.element(PageElement::Nothing, "deny")
     }
 }
 
@@ -245,10 +245,10 @@ fn put_decision(page: &mut Page, allow: bool, quiet: bool) -> Result<(), AllocEr
 fn put_fields(alloc: Global, page: &mut Page, rule: &Rule) -> Result<(), AllocError>
     ensures { OnOk result (page.new ≡ page.old ++ fields_cell rule.now) }
 {
-    page.open(Element::Cell)?;
+    page.open(PageElement::Cell)?;
     put_each_field(alloc, page, rule)?;
     put_each(page, rule)?;
-    page.close(Element::Cell)
+    page.close(PageElement::Cell)
 }
 
 fn put_each_field(alloc: Global, page: &mut Page, rule: &Rule) -> Result<(), AllocError>
@@ -275,7 +275,7 @@ fn put_field(
     }
     let mut octets = Vec::new(alloc);
     put_field_items(&mut octets, field, ranges)?;
-    page.octets_element(Element::Code, &octets)
+    page.octets_element(PageElement::Code, &octets)
 }
 
 /// Appends that each ask is meant, if the rule names no field.
@@ -304,19 +304,19 @@ fn is_bare(rule: &Rule) -> bool
 fn put_default(page: &mut Page, times: &Times, place: usize) -> Result<(), AllocError>
     ensures { OnOk result (page.new ≡ page.old ++ default_row times.now.are_shown times.now.counts.items place) }
 {
-    page.open(Element::Row)?;
+    page.open(PageElement::Row)?;
     put_default_cells(page)?;
     times.put(page, place, false)?;
-    page.close(Element::Row)
+    page.close(PageElement::Row)
 }
 
 #[tactic(auto, unfolding(crate::specs::Report::default_cells))]
 fn put_default_cells(page: &mut Page) -> Result<(), AllocError>
     ensures { OnOk result (page.new ≡ page.old ++ default_cells) }
 {
-    page.element(Element::Cell, "")?;
-    page.element(Element::Cell, NO_RULE)?;
+    page.element(PageElement::Cell, "")?;
+    page.element(PageElement::Cell, NO_RULE)?;
     put_decision(page, false, false)?;
-    page.element(Element::Cell, "those that no rule matches")?;
-    page.element(Element::Cell, "")
+    page.element(PageElement::Cell, "those that no rule matches")?;
+    page.element(PageElement::Cell, "")
 }

@@ -1,6 +1,6 @@
 //! A site as a picture: the gateway, its ports with their networks, broadcast managers, peers and routers, and its device.
 
-use crate::page::{Element, Label, Page, Place, Shape, Size};
+use crate::page::{Label, Page, PageElement, PicturePlace, Shape, Size};
 use crate::words::shortened;
 use gw_addr::{BipAddr, NetNum};
 use gw_configuration::{Config, Device, Port, Route};
@@ -38,7 +38,7 @@ const LETTERS: usize = 21;
 
 /// Appends the picture of a site.
 pub(crate) fn put_site(alloc: Global, page: &mut Page, config: &Config) -> Result<(), AllocError> {
-    page.element(Element::Heading, "The site")?;
+    page.element(PageElement::Heading, "The site")?;
     let height = height_of(config);
     page.open_picture(height)?;
     put_gateway(alloc, page, config.device(), height)?;
@@ -77,7 +77,7 @@ fn put_more(page: &mut Page, config: &Config) -> Result<(), AllocError> {
         return Ok(());
     }
     page.element(
-        Element::Aside,
+        PageElement::Aside,
         "Of each port at most 12 peers and 12 networks behind routers are drawn.",
     )
 }
@@ -93,17 +93,17 @@ fn put_gateway(
         width: 150,
         height: height.saturating_sub(8),
     };
-    page.draw(Shape::Gateway, Place { x: 4, y: 4 }, size)?;
-    page.label(Label::Strong, Place { x: 14, y: 26 }, "gateway")?;
+    page.draw(Shape::Gateway, PicturePlace { x: 4, y: 4 }, size)?;
+    page.label(Label::Strong, PicturePlace { x: 14, y: 26 }, "gateway")?;
     let name = shortened(alloc, device.name.as_str(), LETTERS)?;
-    page.label(Label::Light, Place { x: 14, y: 44 }, name.as_str())
+    page.label(Label::Light, PicturePlace { x: 14, y: 44 }, name.as_str())
 }
 
 /// Draws the gateway's own device at its network.
 fn put_device(alloc: Global, page: &mut Page, device: &Device, top: u64) -> Result<(), AllocError> {
     let y = top.saturating_add(12);
     put_link(page, y.saturating_add(18), LEFT - 154)?;
-    let at = Place { x: LEFT, y };
+    let at = PicturePlace { x: LEFT, y };
     let mut words = String::new(alloc);
     words.push_str("device ")?;
     words.push_str(Buffer::new().format(device.instance.get()))?;
@@ -115,7 +115,7 @@ fn put_device(alloc: Global, page: &mut Page, device: &Device, top: u64) -> Resu
 fn put_link(page: &mut Page, y: u64, width: u64) -> Result<(), AllocError> {
     page.draw(
         Shape::Network,
-        Place { x: 154, y },
+        PicturePlace { x: 154, y },
         Size { width, height: 5 },
     )
 }
@@ -124,16 +124,16 @@ fn put_link(page: &mut Page, y: u64, width: u64) -> Result<(), AllocError> {
 fn put_box(
     page: &mut Page,
     shape: Shape,
-    at: Place,
+    at: PicturePlace,
     first: &str,
     second: &str,
 ) -> Result<(), AllocError> {
     page.draw(shape, at, BOX)?;
     let x = at.x.saturating_add(8);
     let y = at.y.saturating_add(15);
-    page.label(Label::Light, Place { x, y }, first)?;
+    page.label(Label::Light, PicturePlace { x, y }, first)?;
     let y = at.y.saturating_add(31);
-    page.label(Label::Plain, Place { x, y }, second)
+    page.label(Label::Plain, PicturePlace { x, y }, second)
 }
 
 fn network_words(alloc: Global, network: NetNum) -> Result<String, AllocError> {
@@ -208,10 +208,10 @@ impl Lane<'_> {
         words.push_str(", network ")?;
         words.push_str(Buffer::new().format(self.port.network.get()))?;
         let y = top.saturating_add(18);
-        page.label(Label::Strong, Place { x: LEFT, y }, words.as_str())?;
+        page.label(Label::Strong, PicturePlace { x: LEFT, y }, words.as_str())?;
         let y = top.saturating_add(36);
         let address = self.port.address.to_string(alloc)?;
-        page.label(Label::Light, Place { x: LEFT, y }, address.as_str())?;
+        page.label(Label::Light, PicturePlace { x: LEFT, y }, address.as_str())?;
         put_link(page, top.saturating_add(44), RIGHT.saturating_add(30))
     }
 
@@ -242,8 +242,8 @@ fn rows_of(boxes: u64) -> u64 {
 }
 
 /// Where the box of this place is, the first of which is at this height.
-fn box_at(place: u64, y: u64) -> Place {
-    Place {
+fn box_at(place: u64, y: u64) -> PicturePlace {
+    PicturePlace {
         x: (place % ACROSS)
             .saturating_mul(STEP_RIGHT)
             .saturating_add(LEFT),
@@ -254,7 +254,7 @@ fn box_at(place: u64, y: u64) -> Place {
 fn put_manager(
     alloc: Global,
     page: &mut Page,
-    at: Place,
+    at: PicturePlace,
     words: &str,
     manager: BipAddr,
 ) -> Result<(), AllocError> {
@@ -262,7 +262,12 @@ fn put_manager(
     put_box(page, Shape::Peer, at, words, address.as_str())
 }
 
-fn put_router(alloc: Global, page: &mut Page, at: Place, route: &Route) -> Result<(), AllocError> {
+fn put_router(
+    alloc: Global,
+    page: &mut Page,
+    at: PicturePlace,
+    route: &Route,
+) -> Result<(), AllocError> {
     let mut words = network_words(alloc, route.network)?;
     words.push_str(" behind")?;
     let address = route.next.to_string(alloc)?;

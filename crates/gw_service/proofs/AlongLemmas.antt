@@ -13,7 +13,7 @@ use Rattle.gw_turns.specs.declared.announcing.Announcing.{Announcing}
 use Rattle.gw_turns.specs.declared.serving.ServeFault.{ServeFault}
 use Rattle.gw_turns.specs.declared.serving.ServeFault.TheVariants as fault
 use Rattle.gw_turns.specs.declared.serving.Served.{Served}
-use Rattle.gw_turns.specs.declared.tally.Tally.{Tally}
+use Rattle.gw_turns.specs.declared.tally.DropTally.{DropTally}
 use Rattle.gw_notices.specs.Notices.{metrics_notice, no_troubles, notice_of}
 use Rattle.gw_notices.specs.declared.reload.ReloadCounts.{ReloadCounts}
 use Rattle.gw_notices.specs.declared.troubles.Troubles.{Troubles}
@@ -26,8 +26,8 @@ use Rattle.gw_service.specs.Kept.{AnswersStop, EndsRun, Rest, RunsFrom, RunsFrom
 use Rattle.gw_service.specs.Metering.{failing_by, lost_by}
 use Rattle.gw_service.specs.Serving.{Ends}
 use Rattle.gw_service.specs.declared.holding.Holding.{Holding}
-use Rattle.gw_service.specs.declared.running.End.{End}
-use Rattle.gw_service.specs.declared.running.End.TheVariants as end
+use Rattle.gw_service.specs.declared.running.RunEnd.{RunEnd}
+use Rattle.gw_service.specs.declared.running.RunEnd.TheVariants as end
 
 -- What one manner does with a keeper, another one does with a part of it, as long as this holds of the keeper; and it says the same.
 pub record Follows {K J : Type 0} (Holds : K → Type 0) (part : K → J) (M : Manner K) (N : Manner J) : Type 0 where
@@ -37,11 +37,11 @@ pub record Follows {K J : Type 0} (Holds : K → Type 0) (part : K → J) (M : M
   pub adopts : (k l : K) (c : Configuration) (w : State) → Holds k → M.Adopts k c w l → N.Adopts (part k) c w (part l) × Holds l
   pub lasts : (k l : K) (w : State) → Holds k → M.Lasts k w l → N.Lasts (part k) w (part l) × Holds l
   pub troubles : (k : K) → Holds k → M.troubles k ≡ N.troubles (part k)
-  pub report : (k : K) → Holds k → (u : ReloadCounts) (a : Announcing) (m : Option ℕ) (w : State) (s : Served) (t : Tally)
+  pub report : (k : K) → Holds k → (u : ReloadCounts) (a : Announcing) (m : Option ℕ) (w : State) (s : Served) (t : DropTally)
       → M.report k u a m w s t ≡ N.report (part k) u a m w s t
-  pub status : (k : K) → Holds k → (u : ReloadCounts) (a : Announcing) (m : Option ℕ) (w : State) (s : Served) (t : Tally)
+  pub status : (k : K) → Holds k → (u : ReloadCounts) (a : Announcing) (m : Option ℕ) (w : State) (s : Served) (t : DropTally)
       → M.status k u a m w s t ≡ N.status (part k) u a m w s t
-  pub meters : (w : State) (s : Served) (t : Tally) (before after : Option Metering) → M.Meters w s t before after
+  pub meters : (w : State) (s : Served) (t : DropTally) (before after : Option Metering) → M.Meters w s t before after
       → N.Meters w s t before after
 
 abbrev pub moment_by : {K J : Type 0} → (K → J) → Moment K → Moment J
@@ -246,7 +246,7 @@ module _ {K J : Type 0} (Holds : K → Type 0) (part : K → J) (M : Manner K) (
         passed.1,
       )
 
-  runs_so : (count : ℕ) (s t : Stage K) (answer : Result End ServeFault) (links : List Link) → Holds s.now.guard
+  runs_so : (count : ℕ) (s t : Stage K) (answer : Result RunEnd ServeFault) (links : List Link) → Holds s.now.guard
       → Runs M count s answer links t → Runs N count (stage_by part s) answer links (stage_by part t) × Holds t.now.guard
   runs_so count s t (Ok end.Turns) links i runs =
       let chain = chains_so s t links i runs.chain in (record { chain = chain.0; turns = runs.turns }, chain.1)
@@ -301,11 +301,11 @@ module _ {K J : Type 0} (Holds : K → Type 0) (part : K → J) (M : Manner K) (
   begun_holds : (s t : Stage K) → Begins s t → Holds s.now.guard → Holds t.now.guard
   begun_holds s t begins i = subst (λ (u : Stage K). Holds u.now.guard) (sym begins.is) i
 
-  module _ (report : K → ReloadCounts → Announcing → Option ℕ → State → Served → Tally → List ℕ)
-      (other : J → ReloadCounts → Announcing → Option ℕ → State → Served → Tally → List ℕ)
-      (reports : (k : K) → Holds k → (u : ReloadCounts) (a : Announcing) (m : Option ℕ) (w : State) (s : Served) (t : Tally)
+  module _ (report : K → ReloadCounts → Announcing → Option ℕ → State → Served → DropTally → List ℕ)
+      (other : J → ReloadCounts → Announcing → Option ℕ → State → Served → DropTally → List ℕ)
+      (reports : (k : K) → Holds k → (u : ReloadCounts) (a : Announcing) (m : Option ℕ) (w : State) (s : Served) (t : DropTally)
       → report k u a m w s t ≡ other (part k) u a m w s t) where
-    ends_so : (start : Counts) (answer : Result End ServeFault) (last : Stage K) (left : Rest K) (text : List ℕ) → Holds last.now.guard
+    ends_so : (start : Counts) (answer : Result RunEnd ServeFault) (last : Stage K) (left : Rest K) (text : List ℕ) → Holds last.now.guard
         → EndsRun M report start answer last left text
         → EndsRun N other start answer (stage_by part last) (rest (part left.keeper) left.requests) text
     ends_so start answer last left text i is =
@@ -321,7 +321,7 @@ module _ {K J : Type 0} (Holds : K → Type 0) (part : K → J) (M : Manner K) (
               troubles;
         }
 
-    pub runs_from_so : (start : Counts) (turns : ℕ) (first : Stage K) (answer : Result End ServeFault) (after : Ends) (left : Rest K)
+    pub runs_from_so : (start : Counts) (turns : ℕ) (first : Stage K) (answer : Result RunEnd ServeFault) (after : Ends) (left : Rest K)
         (text : List ℕ) → Holds first.now.guard → RunsFrom M report start turns first answer after left text
         → RunsFrom N other start turns (stage_by part first) answer after (rest (part left.keeper) left.requests) text
     runs_from_so start turns first answer after left text i is =
@@ -426,7 +426,7 @@ module _ {K J : Type 0} (Holds : K → Type 0) (part : K → J) (M : Manner (Hol
 
   -- ---- a run
 
-  last_so : (how : Result End ServeFault) (s t : Hold K) (text : List ℕ) → Holds s.stage.now.guard.keeper → EndsHolding M how s text t
+  last_so : (how : Result RunEnd ServeFault) (s t : Hold K) (text : List ℕ) → Holds s.stage.now.guard.keeper → EndsHolding M how s text t
       → EndsHolding N how (hold_by part s) text (hold_by part t) × Holds t.stage.now.guard.keeper
   last_so (Ok end.Turns) s t text i is =
       ((ap (hold_by part) is.0, is.1), subst (λ (u : Hold K). Holds u.stage.now.guard.keeper) (sym is.0) i)
@@ -450,7 +450,7 @@ module _ {K J : Type 0} (Holds : K → Type 0) (part : K → J) (M : Manner (Hol
       ((p.0, p.1, so.0), so.1)) s t i is.0 in
       ((so.0, is.1), so.1)
 
-  serves_holding_so : (count : ℕ) (s t : Hold K) (how : Result End ServeFault) (text : List ℕ) → Holds s.stage.now.guard.keeper
+  serves_holding_so : (count : ℕ) (s t : Hold K) (how : Result RunEnd ServeFault) (text : List ℕ) → Holds s.stage.now.guard.keeper
       → ServesHolding M count s how text t → ServesHolding N count (hold_by part s) how text (hold_by part t) × Holds t.stage.now.guard.keeper
   serves_holding_so count s t how text i is =
       let chain = steps_so s is.after is.steps i is.chain in
@@ -476,7 +476,7 @@ module _ {K J : Type 0} (Holds : K → Type 0) (part : K → J) (M : Manner (Hol
   finishes_so s t text i (inr is) =
       let so = written_so s t is.0 text i is.1 in (inr (is.0, so.0), so.1)
 
-  runs_holding_so : (count : ℕ) (s t : Hold K) (answer : Result End ServeFault) (text : List ℕ) → Holds s.stage.now.guard.keeper
+  runs_holding_so : (count : ℕ) (s t : Hold K) (answer : Result RunEnd ServeFault) (text : List ℕ) → Holds s.stage.now.guard.keeper
       → RunsHolding M count s answer text t → RunsHolding N count (hold_by part s) answer text (hold_by part t) × Holds t.stage.now.guard.keeper
   runs_holding_so count s t answer text i is =
       let serves = serves_holding_so count s is.middle is.how is.served_text i is.serves in
@@ -494,11 +494,11 @@ module _ {K J : Type 0} (Holds : K → Type 0) (part : K → J) (M : Manner (Hol
         finishes.1,
       )
 
-  pub runs_from_holding_so : (report : Holding K → ReloadCounts → Announcing → Option ℕ → State → Served → Tally → List ℕ)
-      (other : Holding J → ReloadCounts → Announcing → Option ℕ → State → Served → Tally → List ℕ)
-      → ((h : Holding K) → Holds h.keeper → (u : ReloadCounts) (a : Announcing) (m : Option ℕ) (w : State) (s : Served) (t : Tally)
+  pub runs_from_holding_so : (report : Holding K → ReloadCounts → Announcing → Option ℕ → State → Served → DropTally → List ℕ)
+      (other : Holding J → ReloadCounts → Announcing → Option ℕ → State → Served → DropTally → List ℕ)
+      → ((h : Holding K) → Holds h.keeper → (u : ReloadCounts) (a : Announcing) (m : Option ℕ) (w : State) (s : Served) (t : DropTally)
       → report h u a m w s t ≡ other (held_by part h) u a m w s t)
-      → (start : Counts) (turns : ℕ) (first : Stage (Holding K)) (answer : Result End ServeFault) (after : Ends) (left : Rest (Holding K))
+      → (start : Counts) (turns : ℕ) (first : Stage (Holding K)) (answer : Result RunEnd ServeFault) (after : Ends) (left : Rest (Holding K))
       (text : List ℕ) → Holds first.now.guard.keeper → RunsFromHolding M report start turns first answer after left text
       → RunsFromHolding N other start turns (on first) answer after (rest (held_by part left.keeper) left.requests) text
   runs_from_holding_so report other reports start turns first answer after left text i is =

@@ -15,22 +15,22 @@ use Rattle.gw_script.specs.declared.sink.WriteFailed.{WriteFailed}
 use Rattle.gw_turns.specs.Announcing.{with_due}
 use Rattle.gw_turns.specs.declared.announcing.Announcing.{Announcing}
 use Rattle.gw_turns.specs.Stretch.{EndsAtTick, EndsAtTurns, EndsFaulty, EndsStretch, EndsWithheld, GoOn, Moment, moment}
-use Rattle.gw_turns.specs.declared.stretch.Pause.{Pause}
+use Rattle.gw_turns.specs.declared.stretch.StretchEnd.{StretchEnd}
 use Rattle.gw_turns.specs.declared.serving.ServeFault.{ServeFault}
 use Rattle.gw_turns.specs.declared.serving.ServeFault.TheVariants as serving
 use Rattle.gw_core.specs.State.{State}
 use Rattle.gw_turns.specs.Serve.{Turn, count_fault, count_turn, counts_after, empty_turn, failed_turn, lost_event, scene, taken_event}
 use Rattle.gw_wire.specs.Wire.{Call}
 use Rattle.gw_turns.specs.declared.serving.Served.{Served}
-use Rattle.gw_turns.specs.declared.tally.Tally.{Tally}
+use Rattle.gw_turns.specs.declared.tally.DropTally.{DropTally}
 use Rattle.gw_system.proofs.RequestLemmas.{goes_two}
 use Rattle.gw_system.specs.Requests.{Asking, Exchange, GoesOn, answered, asked, asked_by, asked_for, asked_to_say}
 use Rattle.gw_system.specs.declared.request.Request.{Request}
 use Rattle.gw_system.specs.declared.reading.ReadFailure.{ReadFailure}
 use Rattle.gw_service.specs.Chain.{Advances, AdvancesBy, AreLinks, Edge, IsLink, IsLooked, IsNotedWith, IsTicked, Link, Look, Looks, Manner, Runs, RunsUnsynced, Stage, chain_text, end_of, is_stopping, link_text, look_text}
 use Rattle.gw_service.specs.Chain.{ended, inquired, passed_over, refused, served, standing, stopping, taken_over, ticked, unrequested}
-use Rattle.gw_service.specs.declared.running.End.{End}
-use Rattle.gw_service.specs.declared.running.End.TheVariants as end
+use Rattle.gw_service.specs.declared.running.RunEnd.{RunEnd}
+use Rattle.gw_service.specs.declared.running.RunEnd.TheVariants as end
 use Rattle.gw_notices.specs.Notices.{IsStatusAnswer}
 use Rattle.gw_service.specs.Keeping.{IsSuccessor}
 use Rattle.gw_service.specs.Kept.{status_or}
@@ -210,7 +210,7 @@ same_note c w k l q counts a Takes log log_then stops report (taken_over text ne
 
 -- what keeps all that the log holds changes nothing of turns that were served
 pub went_kept : {G : Type 0} (Passes : G → State → Event → G → Bool → Type 0) (a : Moment G) (turns : List Turn) (w : State)
-    (held holds : Option (List ℕ)) (calls : Option (List Call)) (g : G) (s : Served) (t : Tally)
+    (held holds : Option (List ℕ)) (calls : Option (List Call)) (g : G) (s : Served) (t : DropTally)
     → GoOn Passes a turns (moment (scene w held calls) g s t) → Keeps held holds → GoOn Passes a turns (moment (scene w holds calls) g s t)
 went_kept Passes a turns w held holds calls g s t went kept = record {
   went = record {
@@ -225,11 +225,11 @@ went_kept Passes a turns w held holds calls g s t went kept = record {
 }
 
 -- by its answer
-pub ends_as : {K : Type 0} (Passes : K → State → Event → K → Bool → Type 0) (count : ℕ) (a b : Moment K) (answer : Result Pause ServeFault)
-    (unwritten : List ℕ) (field pause : Pause) → answer ≡ Ok field → field ≡ pause → EndsStretch Passes count a answer unwritten b
+pub ends_as : {K : Type 0} (Passes : K → State → Event → K → Bool → Type 0) (count : ℕ) (a b : Moment K) (answer : Result StretchEnd ServeFault)
+    (unwritten : List ℕ) (field pause : StretchEnd) → answer ≡ Ok field → field ≡ pause → EndsStretch Passes count a answer unwritten b
     → EndsStretch Passes count a (Ok pause) unwritten b
 ends_as {K} Passes count a b answer unwritten field pause is is_pause ends =
-    subst (λ (r : Result Pause ServeFault). EndsStretch Passes count a r unwritten b) (is ∙ ap Ok is_pause) ends
+    subst (λ (r : Result StretchEnd ServeFault). EndsStretch Passes count a r unwritten b) (is ∙ ap Ok is_pause) ends
 
 -- ---- a stretch is one turn at least
 
@@ -282,7 +282,7 @@ chained_none manner o first Never held =
     λ c is. (c, [], is, links_none manner (first c), λ never. appends_nothing held)
 
 -- what comes of a stretch, from each configuration of this origin
-abbrev pub Advanced : {K : Type 0} → Manner K → ℕ → Origin → (Configuration → Stage K) → Result (Option End) ServeFault → Origin
+abbrev pub Advanced : {K : Type 0} → Manner K → ℕ → Origin → (Configuration → Stage K) → Result (Option RunEnd) ServeFault → Origin
     → (Configuration → Stage K) → Edge → (Never : Type 0) → (held holds : Option (List ℕ)) → Type 0
 Advanced manner count p now result q next edge Never held holds =
     (c : Configuration) → p ≡ origin_of c → (d : Configuration) × (text : List ℕ) × (q ≡ origin_of d)
@@ -306,7 +306,7 @@ chained_more manner count o p q first now next edge Never Then held middle holds
     )
 
 -- what a run leads to, from each configuration of this origin
-abbrev pub Ran : {K : Type 0} → Manner K → ℕ → Origin → (Configuration → Stage K) → Result End ServeFault → Origin
+abbrev pub Ran : {K : Type 0} → Manner K → ℕ → Origin → (Configuration → Stage K) → Result RunEnd ServeFault → Origin
     → (Configuration → Stage K) → (Never : Type 0) → (held holds : Option (List ℕ)) → Type 0
 Ran manner count o first result p last Never held holds =
     (c : Configuration) → o ≡ origin_of c → (d : Configuration) × (links : List Link) × (p ≡ origin_of d)
@@ -382,7 +382,7 @@ unsynced_chain manner count s t links runs =
 
 -- a run ends so
 pub ran_ended : {K : Type 0} (manner : Manner K) (count left : ℕ) (o p q : Origin) (first now last : Configuration → Stage K)
-    (edge : Edge) (Never Then : Type 0) (held middle holds : Option (List ℕ)) (how : End) → Chained manner o first p now Never held middle
+    (edge : Edge) (Never Then : Type 0) (held middle holds : Option (List ℕ)) (how : RunEnd) → Chained manner o first p now Never held middle
     → Advanced manner left p now (Ok (Some how)) q last edge Then middle holds → (Never → Then)
     → ((c d : Configuration) → (now d).now.served.turns + left ≡ (first c).now.served.turns + count)
     → Ran manner count o first (Ok how) q last Never held holds
@@ -416,11 +416,11 @@ advanced_by manner s turns stopping text t true edge is due lasted done = (turns
 
 -- by how it ends then
 pub advances_as : {K : Type 0} (manner : Manner K) (count : ℕ) (s : Stage K) (text : List ℕ) (t : Stage K) (stops : Bool) (edge : Edge)
-    (ending : Option End) → ending ≡ end_of stops → AdvancesBy manner stops s text t edge → Advances manner count s (Ok ending) text t edge
+    (ending : Option RunEnd) → ending ≡ end_of stops → AdvancesBy manner stops s text t edge → Advances manner count s (Ok ending) text t edge
 advances_as manner count s text t true edge ending is by =
-    subst (λ (e : Option End). Advances manner count s (Ok e) text t edge) (sym is) by
+    subst (λ (e : Option RunEnd). Advances manner count s (Ok e) text t edge) (sym is) by
 advances_as manner count s text t false edge ending is by =
-    subst (λ (e : Option End). Advances manner count s (Ok e) text t edge) (sym is) by
+    subst (λ (e : Option RunEnd). Advances manner count s (Ok e) text t edge) (sym is) by
 
 pub ran_until : {K : Type 0} (manner : Manner K) (count left : ℕ) (o p q : Origin) (first now last : Configuration → Stage K) (fault : ServeFault)
     (edge : Edge) (Never Then : Type 0) (held middle holds : Option (List ℕ)) → Chained manner o first p now Never held middle

@@ -11,21 +11,21 @@ use Rattle.gw_system.specs.Requests.{Asking, GoesOn, answered}
 use Rattle.gw_turns.specs.declared.announcing.Announcing.{Announcing}
 use Rattle.gw_turns.specs.declared.serving.ServeFault.{ServeFault}
 use Rattle.gw_turns.specs.declared.serving.Served.{Served}
-use Rattle.gw_turns.specs.declared.tally.Tally.{Tally}
+use Rattle.gw_turns.specs.declared.tally.DropTally.{DropTally}
 use Rattle.gw_service.specs.Chain.{Manner, Stage}
 use Rattle.gw_service.specs.Kept.{EndsRun, is_stopped, rest}
 use Rattle.gw_service.specs.Metering.{MetersLast, lost_by, seconds_of}
-use Rattle.gw_service.specs.declared.running.End.{End}
-use Rattle.gw_service.specs.declared.running.End.TheVariants as end
+use Rattle.gw_service.specs.declared.running.RunEnd.{RunEnd}
+use Rattle.gw_service.specs.declared.running.RunEnd.TheVariants as end
 
 -- what is reported last
-abbrev last_text : {K : Type 0} → (K → ReloadCounts → Announcing → Option ℕ → State → Served → Tally → List ℕ) → Stage K → K → Option Metering
+abbrev last_text : {K : Type 0} → (K → ReloadCounts → Announcing → Option ℕ → State → Served → DropTally → List ℕ) → Stage K → K → Option Metering
     → List ℕ
 last_text report last k metrics =
     report k last.counts last.announcing (lost_by metrics) last.now.scene.gateway last.now.served last.now.tally
 
 -- it was asked to stop
-stopped_so : {K : Type 0} (manner : Manner K) (report : K → ReloadCounts → Announcing → Option ℕ → State → Served → Tally → List ℕ) (start : Counts)
+stopped_so : {K : Type 0} (manner : Manner K) (report : K → ReloadCounts → Announcing → Option ℕ → State → Served → DropTally → List ℕ) (start : Counts)
     (last : Stage K) (k : K) (requests : Asking) (metrics : Option Metering) → manner.Lasts last.now.guard last.now.scene.gateway k
     → MetersLast last.metrics (seconds_of start last.now.scene.gateway last.now.served last.now.tally) metrics
     → GoesOn last.requests requests (answered (stop_line (manner.troubles k).state) ∷ [])
@@ -34,8 +34,8 @@ stopped_so : {K : Type 0} (manner : Manner K) (report : K → ReloadCounts → A
 stopped_so manner report start last k requests metrics keeps put answers =
     record { keeps = keeps; metrics = metrics; put = put; answers = answers; said = refl }
 
-pub ends_stopped : {K : Type 0} (manner : Manner K) (report : K → ReloadCounts → Announcing → Option ℕ → State → Served → Tally → List ℕ)
-    (start : Counts) (answer : Result End ServeFault) (last : Stage K) (k l : K) (requests : Asking) (metrics : Option Metering)
+pub ends_stopped : {K : Type 0} (manner : Manner K) (report : K → ReloadCounts → Announcing → Option ℕ → State → Served → DropTally → List ℕ)
+    (start : Counts) (answer : Result RunEnd ServeFault) (last : Stage K) (k l : K) (requests : Asking) (metrics : Option Metering)
     → is_stopped answer ≡ true → l ≡ k → manner.Lasts last.now.guard last.now.scene.gateway k
     → MetersLast last.metrics (seconds_of start last.now.scene.gateway last.now.served last.now.tally) metrics
     → GoesOn last.requests requests (answered (stop_line (manner.troubles k).state) ∷ [])
@@ -49,8 +49,8 @@ ends_stopped manner report start (Ok end.Unsynced) last k l requests metrics is 
 ends_stopped manner report start (Err fault) last k l requests metrics is same keeps put answers = absurd cc
 
 -- it wasn't
-pub ends_else : {K : Type 0} (manner : Manner K) (report : K → ReloadCounts → Announcing → Option ℕ → State → Served → Tally → List ℕ)
-    (start : Counts) (answer : Result End ServeFault) (last : Stage K) (k : K) → is_stopped answer ≡ false
+pub ends_else : {K : Type 0} (manner : Manner K) (report : K → ReloadCounts → Announcing → Option ℕ → State → Served → DropTally → List ℕ)
+    (start : Counts) (answer : Result RunEnd ServeFault) (last : Stage K) (k : K) → is_stopped answer ≡ false
     → manner.Lasts last.now.guard last.now.scene.gateway k
     → EndsRun manner report start answer last (rest k last.requests) (last_text report last k last.metrics)
 ends_else manner report start (Ok end.Turns) last k is keeps =

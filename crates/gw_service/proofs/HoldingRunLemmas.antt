@@ -23,12 +23,12 @@ use Rattle.gw_notices.specs.declared.reload.ReloadCounts.{ReloadCounts}
 use Rattle.gw_notices.specs.declared.troubles.Troubles.{Troubles}
 use Rattle.gw_turns.specs.declared.announcing.Announcing.{Announcing}
 use Rattle.gw_turns.specs.declared.serving.Served.{Served}
-use Rattle.gw_turns.specs.declared.tally.Tally.{Tally}
+use Rattle.gw_turns.specs.declared.tally.DropTally.{DropTally}
 use Rattle.gw_service.specs.Kept.{EndsRun, Rest, RunsFromHolding, is_stopped}
 use Rattle.gw_service.specs.Serving.{Ends}
 use Rattle.gw_service.specs.declared.holding.Holding.{Holding}
-use Rattle.gw_service.specs.declared.running.End.{End}
-use Rattle.gw_service.specs.declared.running.End.TheVariants as end
+use Rattle.gw_service.specs.declared.running.RunEnd.{RunEnd}
+use Rattle.gw_service.specs.declared.running.RunEnd.TheVariants as end
 
 -- ---- steps
 
@@ -78,7 +78,7 @@ over_waiting Comes s after was is some log comes = record { some = some; after =
 
 -- one over the log
 pub goes_over_log : {K : Type 0} (m : Manner (Holding K)) (count : ℕ) (s after : Stage (Holding K)) (was is : List ℕ)
-    (answer : Result (Option End) ServeFault) (text : List ℕ) (edge : Edge) → was ≡ [] → is ≡ was → Advances m count s answer text after edge
+    (answer : Result (Option RunEnd) ServeFault) (text : List ℕ) (edge : Edge) → was ≡ [] → is ≡ was → Advances m count s answer text after edge
     → GoesTo m (hold s was) answer text (hold (counting after (length is) after.now.guard.withheld) is)
 goes_over_log m count s after was is (Ok None) text edge none same comes =
     goes_once m (hold s was) _ (straight comes.0) text (over_log (λ a b. IsLink m a comes.0 b) s after was is none same comes.1) comes.2
@@ -98,7 +98,7 @@ goes_over_log m count s after was is (Err fault) text edge none same comes = (
 
 -- one over what waits
 pub goes_over_waiting : {K : Type 0} (m : Manner (Holding K)) (count : ℕ) (s after : Stage (Holding K)) (was is : List ℕ)
-    (answer : Result (Option End) ServeFault) (text : List ℕ) (edge : Edge) → ¬ (was ≡ []) → after.now.scene.log ≡ s.now.scene.log
+    (answer : Result (Option RunEnd) ServeFault) (text : List ℕ) (edge : Edge) → ¬ (was ≡ []) → after.now.scene.log ≡ s.now.scene.log
     → Advances m count (over s (Some was)) answer text (over after (Some is)) edge
     → GoesTo m (hold s was) answer text (hold (counting after (length is) after.now.guard.withheld) is)
 goes_over_waiting m count s after was is (Ok None) text edge some log comes =
@@ -119,7 +119,7 @@ goes_over_waiting m count s after was is (Err fault) text edge some log comes = 
 
 -- one over the log that failed, and what it lacks waits
 pub goes_failed : {K : Type 0} (m : Manner (Holding K)) (count : ℕ) (s after : Stage (Holding K)) (was is : List ℕ)
-    (answer : Result (Option End) ServeFault) (text : List ℕ) (edge : Edge) → was ≡ [] → is ≡ was ++ edge.unwritten
+    (answer : Result (Option RunEnd) ServeFault) (text : List ℕ) (edge : Edge) → was ≡ [] → is ≡ was ++ edge.unwritten
     → has_log_failed answer ≡ true → Advances m count s answer text after edge
     → GoesTo m (hold s was) (Ok None) (text ++ waits_line) (hold (counting after (length is) (one_more after.now.guard.withheld)) is)
 goes_failed m count s after was is (Ok how) text edge none grew fails comes = absurd cc
@@ -133,14 +133,14 @@ goes_failed m count s after was is (Err serving.Log) text edge none grew fails c
     (ap (λ (l : List ℕ). l ++ waits_line) comes.1)
 
 -- the log failed
-pub failed_is : (answer : Result (Option End) ServeFault) → has_log_failed answer ≡ true → answer ≡ Err serving.Log
+pub failed_is : (answer : Result (Option RunEnd) ServeFault) → has_log_failed answer ≡ true → answer ≡ Err serving.Log
 failed_is (Ok how) is = absurd cc
 failed_is (Err serving.Log) is = refl
 failed_is (Err serving.Memory) is = absurd cc
 failed_is (Err serving.CountEnd) is = absurd cc
 
 -- one after which serving goes on
-pub goes_on_by : {K : Type 0} (m : Manner (Holding K)) (s t : Hold K) (answer : Result (Option End) ServeFault) (text : List ℕ)
+pub goes_on_by : {K : Type 0} (m : Manner (Holding K)) (s t : Hold K) (answer : Result (Option RunEnd) ServeFault) (text : List ℕ)
     → goes_on answer ≡ true → GoesTo m s answer text t → GoesTo m s (Ok None) text t
 goes_on_by m s t (Ok None) text is goes = goes
 goes_on_by m s t (Ok (Some how)) text is goes = absurd cc
@@ -172,7 +172,7 @@ pub stepped_none : {K : Type 0} (m : Manner (Holding K)) (o : Origin) (first : C
 stepped_none m o first Never was = λ c is. (c, [], is, steps_none m (first c), λ never. appends_nothing was)
 
 -- what comes of a stretch, from each configuration of this origin
-abbrev pub Gone : {K : Type 0} → Manner (Holding K) → Origin → (Configuration → Hold K) → Result (Option End) ServeFault → Origin
+abbrev pub Gone : {K : Type 0} → Manner (Holding K) → Origin → (Configuration → Hold K) → Result (Option RunEnd) ServeFault → Origin
     → (Configuration → Hold K) → (Never : Type 0) → (was is : Option (List ℕ)) → Type 0
 Gone m p now answer q next Never was is =
     (c : Configuration) → p ≡ origin_of c → (d : Configuration) × (text : List ℕ) × (q ≡ origin_of d)
@@ -194,7 +194,7 @@ stepped_more m o p q first now next Never Then was middle is steps gone lasts = 
     )
 
 -- how serving ends, from each configuration of this origin
-abbrev pub ServedSo : {K : Type 0} → Manner (Holding K) → ℕ → Origin → (Configuration → Hold K) → Result End ServeFault → Origin
+abbrev pub ServedSo : {K : Type 0} → Manner (Holding K) → ℕ → Origin → (Configuration → Hold K) → Result RunEnd ServeFault → Origin
     → (Configuration → Hold K) → (Never : Type 0) → (was is : Option (List ℕ)) → Type 0
 ServedSo m count o first how p last Never was is =
     (c : Configuration) → o ≡ origin_of c → (d : Configuration) × (text : List ℕ) × (p ≡ origin_of d)
@@ -222,7 +222,7 @@ served_whole m count o p first last Never was is steps all = λ c from.
     )
 
 -- it ended with this stretch
-ended_so : {K : Type 0} (m : Manner (Holding K)) (count : ℕ) (o p q : Origin) (first now last : Configuration → Hold K) (how : Result End ServeFault)
+ended_so : {K : Type 0} (m : Manner (Holding K)) (count : ℕ) (o p q : Origin) (first now last : Configuration → Hold K) (how : Result RunEnd ServeFault)
     (Never Then : Type 0) (was middle is : Option (List ℕ)) → Stepped m o first p now Never was middle
     → ((c : Configuration) → p ≡ origin_of c → (d : Configuration) × (text : List ℕ) × (q ≡ origin_of d)
     × EndsHolding m how (now c) text (last d) × (Then → Appends middle is text))
@@ -245,16 +245,16 @@ ended_so m count o p q first now last how Never Then was middle is steps ends la
       λ never. appends_two was middle is (steps_text before.1) after.1 (before.4 never) (after.4 (lasts never)),
     )
 
-stops_else : ◌≡◌ {A = Result End ServeFault} (Ok end.Stopped) (Ok end.Turns) → ⊥
+stops_else : ◌≡◌ {A = Result RunEnd ServeFault} (Ok end.Stopped) (Ok end.Turns) → ⊥
 stops_else e = cc
 
-unsynced_else : ◌≡◌ {A = Result End ServeFault} (Ok end.Unsynced) (Ok end.Turns) → ⊥
+unsynced_else : ◌≡◌ {A = Result RunEnd ServeFault} (Ok end.Unsynced) (Ok end.Turns) → ⊥
 unsynced_else e = cc
 
-fault_else : (fault : ServeFault) → ◌≡◌ {A = Result End ServeFault} (Err fault) (Ok end.Turns) → ⊥
+fault_else : (fault : ServeFault) → ◌≡◌ {A = Result RunEnd ServeFault} (Err fault) (Ok end.Turns) → ⊥
 fault_else fault e = cc
 
-pub served_so : {K : Type 0} (m : Manner (Holding K)) (count : ℕ) (o p q : Origin) (first now last : Configuration → Hold K) (how : End)
+pub served_so : {K : Type 0} (m : Manner (Holding K)) (count : ℕ) (o p q : Origin) (first now last : Configuration → Hold K) (how : RunEnd)
     (Never Then : Type 0) (was middle is : Option (List ℕ)) → Stepped m o first p now Never was middle
     → Gone m p now (Ok (Some how)) q last Then middle is → (Never → Then) → ServedSo m count o first (Ok how) q last Never was is
 served_so m count o p q first now last end.Turns Never Then was middle is steps gone lasts = λ c from.
@@ -273,15 +273,15 @@ served_fault m count o p q first now last fault Never Then was middle is steps g
 
 -- ---- the end
 
-pub stopped_before : (has_all : Bool) (how : Result End ServeFault) → is_stopped (answer_by has_all how) ≡ true → is_stopped how ≡ true
+pub stopped_before : (has_all : Bool) (how : Result RunEnd ServeFault) → is_stopped (answer_by has_all how) ≡ true → is_stopped how ≡ true
 stopped_before true how e = e
 stopped_before false how e = absurd cc
 
 -- a run reports first what isn't kept or recorded, and last it does what is due at its end
-pub ran_holding : {K : Type 0} (m : Manner (Holding K)) (report : Holding K → ReloadCounts → Announcing → Option ℕ → State → Served → Tally → List ℕ)
+pub ran_holding : {K : Type 0} (m : Manner (Holding K)) (report : Holding K → ReloadCounts → Announcing → Option ℕ → State → Served → DropTally → List ℕ)
     (start : Counts) (count : ℕ) (at begun : Troubles → Stage (Holding K)) (p : Origin) (was is troubles : Troubles) (waiting : List ℕ)
     (last : Configuration → Hold K)
-    (answer : Result End ServeFault) (after : Ends) (left : Rest (Holding K)) (Never Then Last : Type 0) (first_held middle third last_held : Option (List ℕ))
+    (answer : Result RunEnd ServeFault) (after : Ends) (left : Rest (Holding K)) (Never Then Last : Type 0) (first_held middle third last_held : Option (List ℕ))
     → was ≡ no_troubles → is ≡ troubles → waiting ≡ [] → ((t : Troubles) → (at t).said ≡ t) → ((t : Troubles) → Begins (at t) (begun t))
     → ((d : Configuration) × (text : List ℕ) × (p ≡ origin_of d) × RunsHolding m count (hold (begun is) waiting) answer text (last d)
     × (Then → Appends middle third text))

@@ -13,11 +13,11 @@ use Rattle.gw_turns.specs.Tally.{no_tally}
 use Rattle.gw_wire.specs.Wire.{Call}
 use Rattle.gw_turns.specs.declared.serving.ServeFault.{ServeFault}
 use Rattle.gw_turns.specs.declared.serving.Served.{Served}
-use Rattle.gw_turns.specs.declared.tally.Tally.{Tally}
+use Rattle.gw_turns.specs.declared.tally.DropTally.{DropTally}
 use Rattle.gw_system.specs.Requests.{Asking, recorded_by}
 use Rattle.gw_service.specs.Chain.{Begins, Link, Manner, Runs, Stage, chain_text, stage}
 use Rattle.gw_service.specs.Keeping.{failing_in}
-use Rattle.gw_service.specs.declared.running.End.{End}
+use Rattle.gw_service.specs.declared.running.RunEnd.{RunEnd}
 use Rattle.gw_service.specs.Watch.{more_of, troubles_of}
 use Rattle.gw_notices.specs.declared.troubles.Troubles.{Troubles}
 use Rattle.gw_service.specs.Holding.{more_holding, unheld}
@@ -33,16 +33,16 @@ use Rattle.gw_service.specs.Stats.{Reporting, end_stats, reporting}
 use Rattle.gw_service.specs.declared.fault.ServiceFault.{ServiceFault}
 use Rattle.gw_service.specs.declared.fault.ServiceFault.TheVariants as fault
 use Rattle.std.specs.Prelude.{Bool, is_some, ◌||◌, option_map}
-use Rattle.gw_core.specs.declared.guard.Both.{Both}
+use Rattle.gw_core.specs.declared.guard.BothGuards.{BothGuards}
 use Rattle.gw_watchers.specs.Watching.{Watching}
 use Rattle.gw_service.specs.declared.keeping.Kept.{Kept}
 use Rattle.gw_notices.specs.declared.reload.ReloadCounts.{ReloadCounts}
 use Rattle.gw_notices.proofs.AppendLemmas.{appends_nothing, appends_two}
 
 -- A run reports first what isn't kept or recorded, and last it does what is due at its end.
-pub ran_from : {K : Type 0} (manner : Manner K) (report : K → ReloadCounts → Announcing → Option ℕ → State → Served → Tally → List ℕ)
+pub ran_from : {K : Type 0} (manner : Manner K) (report : K → ReloadCounts → Announcing → Option ℕ → State → Served → DropTally → List ℕ)
     (start : Counts) (count : ℕ) (at begun : Troubles → Stage K) (p : Origin) (was is troubles : Troubles) (last : Configuration → Stage K)
-    (answer : Result End ServeFault) (after : Ends) (left : Rest K) (Never Then Last : Type 0) (held middle third holds : Option (List ℕ))
+    (answer : Result RunEnd ServeFault) (after : Ends) (left : Rest K) (Never Then Last : Type 0) (held middle third holds : Option (List ℕ))
     → was ≡ no_troubles → is ≡ troubles → ((t : Troubles) → (at t).said ≡ t) → ((t : Troubles) → Begins (at t) (begun t))
     → ((d : Configuration) × (links : List Link) × (p ≡ origin_of d) × Runs manner count (begun is) answer links (last d)
     × (Then → Appends middle third (chain_text links)))
@@ -76,15 +76,15 @@ ran_from manner report start count at begun p was is troubles last answer after 
     )
 
 -- a run from a stage whose parts are these
-from_start : {K : Type 0} (how : Manner K) (report : K → ReloadCounts → Announcing → Option ℕ → State → Served → Tally → List ℕ) (start : Counts)
+from_start : {K : Type 0} (how : Manner K) (report : K → ReloadCounts → Announcing → Option ℕ → State → Served → DropTally → List ℕ) (start : Counts)
     (count : ℕ) (c : Configuration) (now : Scene)
-    (k : K) (s z : Served) (t n : Tally) (q r : Asking) (u v : ReloadCounts) (a b : Announcing) (f : Troubles) (m e : Option Metering)
-    (answer : Result End ServeFault) (after : Ends) (left : Rest K) (text : List ℕ) → s ≡ z → t ≡ n → q ≡ r → u ≡ v → a ≡ b → m ≡ e
+    (k : K) (s z : Served) (t n : DropTally) (q r : Asking) (u v : ReloadCounts) (a b : Announcing) (f : Troubles) (m e : Option Metering)
+    (answer : Result RunEnd ServeFault) (after : Ends) (left : Rest K) (text : List ℕ) → s ≡ z → t ≡ n → q ≡ r → u ≡ v → a ≡ b → m ≡ e
     → RunsFrom how report start count (stage c (moment now k s t) q u a f m) answer after left text
     → RunsFrom how report start count (stage c (moment now k z n) r v b f e) answer after left text
 from_start how report start count c now k s z t n q r u v a b f m e answer after left text served tally requests counts announcing metrics runs =
     subst (λ (x : Served). RunsFrom how report start count (stage c (moment now k x n) r v b f e) answer after left text) served
-    (subst (λ (x : Tally). RunsFrom how report start count (stage c (moment now k s x) r v b f e) answer after left text) tally
+    (subst (λ (x : DropTally). RunsFrom how report start count (stage c (moment now k s x) r v b f e) answer after left text) tally
     (subst (λ (x : Asking). RunsFrom how report start count (stage c (moment now k s t) x v b f e) answer after left text) requests
     (subst (λ (x : ReloadCounts). RunsFrom how report start count (stage c (moment now k s t) q x b f e) answer after left text) counts
     (subst (λ (x : Announcing). RunsFrom how report start count (stage c (moment now k s t) q u x f e) answer after left text) announcing
@@ -106,9 +106,9 @@ is_reporting stats rules verbose start other keeps kept reloads read starts is_k
 
 -- A gateway that began so ran so.
 pub ran_watched : {S Q L : Type 0} (given : Given S Q L) (c : Configuration) (how : Service) (start : Counts)
-    (keeps reloads : Bool) (turns : ℕ) (w : State) (k : Both (Watching L L) (Kept S)) (s : Served) (t : Tally) (q : Asking) (u : ReloadCounts)
-    (a : Announcing) (m : Option Metering) (before after : Ends) (answer : Result End ServeFault)
-    (left : Rest (Both (Watching L L) (Kept S))) (outcome : Result (Unit {0}) ServiceFault) (Never : Type 0)
+    (keeps reloads : Bool) (turns : ℕ) (w : State) (k : BothGuards (Watching L L) (Kept S)) (s : Served) (t : DropTally) (q : Asking) (u : ReloadCounts)
+    (a : Announcing) (m : Option Metering) (before after : Ends) (answer : Result RunEnd ServeFault)
+    (left : Rest (BothGuards (Watching L L) (Kept S))) (outcome : Result (Unit {0}) ServiceFault) (Never : Type 0)
     (held holds : Option (List ℕ)) → turns ≡ how.turns → start ≡ counts_of w
     → BeginsAs c given.saved given.line w → KeepsFirst given.held given.store c w k.second → k.first ≡ given.watcher → s ≡ zero_counts → t ≡ no_tally
     → q ≡ recorded_by given.said given.requests → u ≡ counts_since w.ticks given.checksum → a ≡ first_announcing
@@ -149,20 +149,20 @@ ran_watched {S} given c how start keeps reloads turns w k s t q u a m before aft
 
 -- a run from a stage whose parts are these, as one that goes on if its log fails
 from_stage : {K : Type 0} (Runs : Stage K → Type 0) (c : Configuration) (now : Scene)
-    (k : K) (s z : Served) (t n : Tally) (q r : Asking) (u v : ReloadCounts) (a b : Announcing) (f : Troubles) (m e : Option Metering)
+    (k : K) (s z : Served) (t n : DropTally) (q r : Asking) (u v : ReloadCounts) (a b : Announcing) (f : Troubles) (m e : Option Metering)
     → s ≡ z → t ≡ n → q ≡ r → u ≡ v → a ≡ b → m ≡ e → Runs (stage c (moment now k s t) q u a f m) → Runs (stage c (moment now k z n) r v b f e)
 from_stage Runs c now k s z t n q r u v a b f m e served tally requests counts announcing metrics runs =
     subst (λ (x : Served). Runs (stage c (moment now k x n) r v b f e)) served
-    (subst (λ (x : Tally). Runs (stage c (moment now k s x) r v b f e)) tally
+    (subst (λ (x : DropTally). Runs (stage c (moment now k s x) r v b f e)) tally
     (subst (λ (x : Asking). Runs (stage c (moment now k s t) x v b f e)) requests
     (subst (λ (x : ReloadCounts). Runs (stage c (moment now k s t) q x b f e)) counts
     (subst (λ (x : Announcing). Runs (stage c (moment now k s t) q u x f e)) announcing
     (subst (λ (x : Option Metering). Runs (stage c (moment now k s t) q u a f x)) metrics runs)))))
 
 pub held_watched : {S Q L : Type 0} (given : Given S Q L) (c : Configuration) (how : Service) (start : Counts)
-    (keeps reloads : Bool) (turns : ℕ) (w : State) (k : Both (Watching L L) (Kept S)) (s : Served) (t : Tally) (q : Asking) (u : ReloadCounts)
-    (a : Announcing) (m : Option Metering) (before after : Ends) (answer : Result End ServeFault)
-    (left : Rest (Holding (Both (Watching L L) (Kept S)))) (outcome : Result (Unit {0}) ServiceFault) (Never : Type 0)
+    (keeps reloads : Bool) (turns : ℕ) (w : State) (k : BothGuards (Watching L L) (Kept S)) (s : Served) (t : DropTally) (q : Asking) (u : ReloadCounts)
+    (a : Announcing) (m : Option Metering) (before after : Ends) (answer : Result RunEnd ServeFault)
+    (left : Rest (Holding (BothGuards (Watching L L) (Kept S)))) (outcome : Result (Unit {0}) ServiceFault) (Never : Type 0)
     (held holds : Option (List ℕ)) → turns ≡ how.turns → start ≡ counts_of w
     → BeginsAs c given.saved given.line w → KeepsFirst given.held given.store c w k.second → k.first ≡ given.watcher → s ≡ zero_counts → t ≡ no_tally
     → q ≡ recorded_by given.said given.requests → u ≡ counts_since w.ticks given.checksum → a ≡ first_announcing
@@ -175,7 +175,7 @@ pub held_watched : {S Q L : Type 0} (given : Given S Q L) (c : Configuration) (h
 held_watched {S} {Q} {L} given c how start keeps reloads turns w k s t q u a m before after answer left outcome Never held holds is_turns is_start begins is_kept
     watches served tally requests is_counts is_announcing is_metered is_keeps is_reloads goes_on answers ran =
     let at = stage c (moment (scene w before.log before.calls) (unheld k) s t) q u a (troubles_of k) m in
-    let report : Reporting → _ = λ (x : Reporting). end_stats (λ (h : Holding (Both (Watching L L) (Kept S))). unkept_of h.keeper) (more_holding more_of) x in
+    let report : Reporting → _ = λ (x : Reporting). end_stats (λ (h : Holding (BothGuards (Watching L L) (Kept S))). unkept_of h.keeper) (more_holding more_of) x in
     let now = reporting_of given how w in
     let same = is_reporting how.stats how.rules how.verbose start (counts_of w) keeps (is_some given.requests || is_some given.store) reloads (is_some given.requests)
     is_start is_keeps is_reloads in (

@@ -11,12 +11,12 @@ use Rattle.gw_notices.specs.declared.reload.ReloadCounts.{ReloadCounts}
 use Rattle.gw_turns.specs.Reports.{has_gone_on, report_of}
 use Rattle.gw_turns.specs.declared.announcing.Announcing.{Announcing}
 use Rattle.gw_turns.specs.declared.serving.Served.{Served}
-use Rattle.gw_turns.specs.declared.tally.Tally.{Tally}
+use Rattle.gw_turns.specs.declared.tally.DropTally.{DropTally}
 use Rattle.gw_service.specs.Metering.{MetersDue, MetersLast, metered, meters_by, seconds_of}
 use Rattle.gw_service.specs.Metrics.{PutsDue, PutsLast, measures_of}
 use Rattle.gw_service.specs.declared.metrics.Measures.{Measures}
 
-abbrev measured_then : Counts → State → Served → Tally → ReloadCounts → Announcing → Losses → Option StateTries → Measures
+abbrev measured_then : Counts → State → Served → DropTally → ReloadCounts → Announcing → Losses → Option StateTries → Measures
 measured_then start w s t reloads announcing losses tries = record {
   report = report_of start w s t;
   reloads = reloads;
@@ -38,7 +38,7 @@ puts_if held None after false m w decisions puts = ap metered puts
 puts_if held (Some before) after false m w decisions puts = ap metered puts
 
 pub puts_metered : {S : Type 0} (held : S → Option (List ℕ)) (before after : Option (Writing S)) (start : Counts) (w : State) (s : Served)
-    (t : Tally) (reloads : ReloadCounts) (announcing : Announcing) (losses : Losses) (tries : Option StateTries) (decisions : Option (List ℕ))
+    (t : DropTally) (reloads : ReloadCounts) (announcing : Announcing) (losses : Losses) (tries : Option StateTries) (decisions : Option (List ℕ))
     (measured : Option Measures) → measured ≡ measures_of start w s t reloads announcing losses tries
     → PutsDue held before measured w decisions after → meters_by start w s t (metered before) (metered after)
 puts_metered held before after start w s t reloads announcing losses tries decisions measured is puts =
@@ -57,7 +57,7 @@ puts_last_if held None after false m w decisions puts = ap metered puts
 puts_last_if held (Some before) after false m w decisions puts = ap metered puts
 
 pub puts_metered_last : {S : Type 0} (held : S → Option (List ℕ)) (before after : Option (Writing S)) (start : Counts) (w : State) (s : Served)
-    (t : Tally) (reloads : ReloadCounts) (announcing : Announcing) (losses : Losses) (tries : Option StateTries) (decisions : Option (List ℕ))
+    (t : DropTally) (reloads : ReloadCounts) (announcing : Announcing) (losses : Losses) (tries : Option StateTries) (decisions : Option (List ℕ))
     (measured : Option Measures) → measured ≡ measures_of start w s t reloads announcing losses tries
     → PutsLast held before measured w decisions after → MetersLast (metered before) (seconds_of start w s t) (metered after)
 puts_metered_last held before after start w s t reloads announcing losses tries decisions measured is puts =

@@ -7,11 +7,11 @@ use Rattle.gw_core.specs.History.{next}
 use Rattle.gw_core.specs.State.{State}
 use Rattle.gw_core.specs.declared.asked.Asked.{Asked}
 use Rattle.gw_core.specs.declared.event.Counts.{Counts}
-use Rattle.gw_core.specs.declared.guard.Both.{Both}
+use Rattle.gw_core.specs.declared.guard.BothGuards.{BothGuards}
 use Rattle.gw_script.specs.Event.{Event}
 use Rattle.gw_turns.specs.declared.announcing.Announcing.{Announcing}
 use Rattle.gw_turns.specs.declared.serving.Served.{Served}
-use Rattle.gw_turns.specs.declared.tally.Tally.{Tally}
+use Rattle.gw_turns.specs.declared.tally.DropTally.{DropTally}
 use Rattle.gw_notices.specs.Stats.{lost_metrics_text, put_off_text, reloads_text, unkept_text}
 use Rattle.gw_notices.specs.declared.reload.ReloadCounts.{ReloadCounts}
 use Rattle.gw_notices.specs.declared.troubles.Troubles.{Troubles}
@@ -95,14 +95,14 @@ nothing_watched w none =
     ∙ ap (λ (x : Option (List ℕ)). is_some x || w.ended) none.counts
     ∙ none.ended
 
-more_nothing : {S L : Type 0} (k : Both (Watching L L) (Kept S)) → WatchesNothing k.first → (rules : Bool) (w : State)
+more_nothing : {S L : Type 0} (k : BothGuards (Watching L L) (Kept S)) → WatchesNothing k.first → (rules : Bool) (w : State)
     → more_of k rules w ≡ []
 more_nothing k none rules w = ap (λ (b : Bool). if b then watcher_text k.first rules w else []) (nothing_watched k.first none)
 
 abbrev troubled : Option StoreFault → (trial audit is_ended : Bool) → Troubles
 troubled failing trial audit is_ended = record { state = failing; trial = trial; audit = audit; ended = is_ended }
 
-troubles_nothing : {S L : Type 0} (k : Both (Watching L L) (Kept S)) → WatchesNothing k.first → troubles_of k ≡ troubles_in k.second
+troubles_nothing : {S L : Type 0} (k : BothGuards (Watching L L) (Kept S)) → WatchesNothing k.first → troubles_of k ≡ troubles_in k.second
 troubles_nothing {S} {L} k none =
     ap (λ (x : Option (Beside Trial L)). troubled (failing_in k.second) (has_lost x) (has_lost k.first.audit) k.first.ended) none.trial
     ∙ ap (λ (x : Option (Beside (List Bool) L)). troubled (failing_in k.second) false (has_lost x) k.first.ended) none.audit
@@ -119,31 +119,31 @@ module _ {K J : Type 0} (unkept : K → ℕ) (more : K → (rules : Bool) → St
       ap₂ (λ (n : ℕ) (x : List ℕ). unkept_text how.keeps n ++ (reloads_text how.reloads u ++ (lost_metrics_text m ++ (announcing_text a
       ++ (put_off_text a.put_off ++ x))))) same (mores how.rules w)
 
-  due_same : (seconds : Option ℕ) (how : Reporting) (u : ReloadCounts) (a : Announcing) (m : Option ℕ) (w : State) (s : Served) (t : Tally)
+  due_same : (seconds : Option ℕ) (how : Reporting) (u : ReloadCounts) (a : Announcing) (m : Option ℕ) (w : State) (s : Served) (t : DropTally)
       → due_by seconds how.start w (minute_text how w s t) (λ n. stats_text how w s t (tries_text unkept more (due_with how w n) k u a m w))
       ≡ due_by seconds how.start w (minute_text how w s t) (λ n. stats_text how w s t (tries_text unkept_then more_then (due_with how w n) j u a m w))
   due_same None how u a m w s t = refl
   due_same (Some n) how u a m w s t =
       ap (λ (x : List ℕ). due_by (Some n) how.start w (minute_text how w s t) (λ _. stats_text how w s t x)) (tries_same (due_with how w n) u a m w)
 
-  report_same : (how : Reporting) (u : ReloadCounts) (a : Announcing) (m : Option ℕ) (w : State) (s : Served) (t : Tally)
+  report_same : (how : Reporting) (u : ReloadCounts) (a : Announcing) (m : Option ℕ) (w : State) (s : Served) (t : DropTally)
       → due_stats unkept more how k u a m w s t ≡ due_stats unkept_then more_then how j u a m w s t
   report_same how u a m w s t = due_same how.seconds how u a m w s t
 
-  status_same : (how : Reporting) (u : ReloadCounts) (a : Announcing) (m : Option ℕ) (w : State) (s : Served) (t : Tally)
+  status_same : (how : Reporting) (u : ReloadCounts) (a : Announcing) (m : Option ℕ) (w : State) (s : Served) (t : DropTally)
       → all_stats unkept more how k u a m w s t ≡ all_stats unkept_then more_then how j u a m w s t
   status_same how u a m w s t = ap (stats_text (whole how) w s t) (tries_same (whole how) u a m w)
 
-  end_same : (how : Reporting) (u : ReloadCounts) (a : Announcing) (m : Option ℕ) (w : State) (s : Served) (t : Tally)
+  end_same : (how : Reporting) (u : ReloadCounts) (a : Announcing) (m : Option ℕ) (w : State) (s : Served) (t : DropTally)
       → end_stats unkept more how k u a m w s t ≡ end_stats unkept_then more_then how j u a m w s t
   end_same how u a m w s t = ap (end_by how.seconds) (status_same how u a m w s t)
 
 -- ---- what watches nothing and keeps the state, and what keeps it
 
-abbrev unwatching : {S L : Type 0} → Both (Watching L L) (Kept S) → Type 0
+abbrev unwatching : {S L : Type 0} → BothGuards (Watching L L) (Kept S) → Type 0
 unwatching k = WatchesNothing k.first
 
-abbrev keeping : {S L : Type 0} → Both (Watching L L) (Kept S) → Kept S
+abbrev keeping : {S L : Type 0} → BothGuards (Watching L L) (Kept S) → Kept S
 keeping k = k.second
 
 follows : {S L : Type 0} (held : S → Option (List ℕ)) (log_held : L → Option (List ℕ)) (how : Reporting)
@@ -163,7 +163,7 @@ follows held log_held how = record {
 }
 
 -- the same of what withholds while lines wait
-more_held : {S L : Type 0} (h : Holding (Both (Watching L L) (Kept S))) → WatchesNothing h.keeper.first → (rules : Bool) (w : State)
+more_held : {S L : Type 0} (h : Holding (BothGuards (Watching L L) (Kept S))) → WatchesNothing h.keeper.first → (rules : Bool) (w : State)
     → more_holding more_of h rules w ≡ more_holding no_more (held_by keeping h) rules w
 more_held h none rules w = ap (λ (x : List ℕ). x ++ held_text h.withheld h.waiting) (more_nothing h.keeper none rules w)
 
@@ -171,7 +171,7 @@ follows_holding : {S L : Type 0} (held : S → Option (List ℕ)) (log_held : L 
     → Follows (λ h. unwatching h.keeper) (held_by keeping) (watched_holding_manner_of held log_held how) (holding_manner_of held how)
 follows_holding {S} {L} held log_held how =
     let plain = follows held log_held how in
-    let unkept : Holding (Both (Watching L L) (Kept S)) → ℕ = λ h. unkept_of h.keeper in
+    let unkept : Holding (BothGuards (Watching L L) (Kept S)) → ℕ = λ h. unkept_of h.keeper in
     let unkept_then : Holding (Kept S) → ℕ = λ h. unkept_in h.keeper in
     record {
       passes = λ k l w event passes none p.
@@ -217,7 +217,7 @@ as_plain given nothing false c how before after text outcome runs =
 as_plain {S} {Q} {L} given nothing true c how before after text outcome runs =
     let reports = reporting_of given how runs.gateway in
     let none = subst (λ (x : Watching _ _). WatchesNothing x) (sym runs.watches) nothing in
-    let unkept : Holding (Both (Watching L L) (Kept S)) → ℕ = λ h. unkept_of h.keeper in
+    let unkept : Holding (BothGuards (Watching L L) (Kept S)) → ℕ = λ h. unkept_of h.keeper in
     let unkept_then : Holding (Kept S) → ℕ = λ h. unkept_in h.keeper in
     let left = rest (held_by keeping runs.left.keeper) runs.left.requests in
     record {

@@ -26,8 +26,8 @@ use Rattle.gw_watchers.specs.declared.beside.Beside.{Beside}
 use Rattle.gw_watchers.specs.declared.trial.Trial.{Trial}
 use Rattle.gw_service.specs.Chain.{AreLinks, IsLink, Link, Look, Runs, Stage, Standing, announced_at, chain_text, link_text, look_text, standing_at}
 use Rattle.gw_service.specs.Chain.{ended, served, ticked, unrequested, withheld}
-use Rattle.gw_service.specs.declared.running.End.{End}
-use Rattle.gw_service.specs.declared.running.End.TheVariants as end
+use Rattle.gw_service.specs.declared.running.RunEnd.{RunEnd}
+use Rattle.gw_service.specs.declared.running.RunEnd.TheVariants as end
 use Rattle.gw_service.specs.Keeping.{IsKeptFor, failing_in, troubles_in}
 use Rattle.gw_service.specs.Kept.{AreRequestsUnder, Given, IsLastDenial, IsMetricsUnder, IsStateUnder, IsStoreUnder, IsUnprepared, LeavesKept, LeavesWithState}
 use Rattle.gw_service.specs.Kept.{IsTrialNote, Names, RunsBy, StateMachine, StoreOpening, first_stage, given, is_plain, names_of, ran, reporting_of, service_by, stop_text, text_before, unopened, unprepared}
@@ -36,7 +36,7 @@ use Rattle.gw_service.specs.Serving.{Ends, LeavesServed, Machine, Service, shut}
 use Rattle.gw_service.specs.Serving.{served as served_by}
 use Rattle.gw_service.specs.Stats.{Reporting, due_by, end_by, is_due, minute_text, troubles_text}
 use Rattle.gw_turns.specs.declared.serving.Served.{Served}
-use Rattle.gw_turns.specs.declared.tally.Tally.{Tally}
+use Rattle.gw_turns.specs.declared.tally.DropTally.{DropTally}
 use Rattle.gw_service.specs.Watch.{AreCountsOf, IsAuditNamed, IsTrialNamed, IsUnwatched, WatchNames, WatchesUnder, is_watched}
 use Rattle.gw_service.specs.declared.edition.Edition.{Edition}
 use Rattle.gw_service.specs.declared.fault.ServiceFault.{ServiceFault}
@@ -55,7 +55,7 @@ due_none None start w minute text is none = none
 due_none (Some n) start w minute text is none = absurd cc
 
 -- nothing is said each minute unless the run is verbose
-minute_none : (how : Reporting) (w : State) (s : Served) (t : Tally) → how.verbose ≡ false → minute_text how w s t ≡ []
+minute_none : (how : Reporting) (w : State) (s : Served) (t : DropTally) → how.verbose ≡ false → minute_text how w s t ≡ []
 minute_none how w s t mute =
     ap (λ (b : Bool). if b && is_due how.start w 60 then troubles_text (Some 60) w s t else []) mute
 
@@ -118,7 +118,7 @@ chain_silent held how s t (link ∷ links) chain none nowhere quiet unreported m
     let later = chain_silent held how chain.0 t links chain.2 still.2 after.nowhere after.quiet unreported mute first.1 first.2 in
     flat_map-cons link_text link links ∙ ap (λ (x : List ℕ). x ++ chain_text links) first.0 ∙ later
 
-run_silent : {S : Type 0} (held : S → Option (List ℕ)) (how : Reporting) (count : ℕ) (s t : Stage (Kept S)) (answer : Result End ServeFault)
+run_silent : {S : Type 0} (held : S → Option (List ℕ)) (how : Reporting) (count : ℕ) (s t : Stage (Kept S)) (answer : Result RunEnd ServeFault)
     (links : List Link) → Runs (manner_of held how) count s answer links t → s.requests ≡ nobody → s.now.guard ≡ Nowhere
     → IsQuiet s.now.scene.gateway → how.seconds ≡ None → how.verbose ≡ false → s.said ≡ no_troubles → s.metrics ≡ None
     → chain_text links ≡ []
@@ -132,7 +132,7 @@ run_silent held how count s t (Err f) links runs none nowhere quiet unreported m
     chain_silent held how s runs.then links runs.chain none nowhere quiet unreported mute said unmetered
 
 -- nobody asks to stop, so nothing is answered
-no_stop : {S : Type 0} (held : S → Option (List ℕ)) (how : Reporting) (count : ℕ) (s t : Stage (Kept S)) (answer : Result End ServeFault)
+no_stop : {S : Type 0} (held : S → Option (List ℕ)) (how : Reporting) (count : ℕ) (s t : Stage (Kept S)) (answer : Result RunEnd ServeFault)
     (failing : Option StoreFault) (links : List Link) → Runs (manner_of held how) count s answer links t → s.requests ≡ nobody
     → stop_text answer failing ≡ []
 no_stop held how count s t (Ok end.Turns) failing links runs none = refl

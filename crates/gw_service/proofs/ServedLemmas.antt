@@ -26,8 +26,8 @@ use Rattle.gw_system.specs.Requests.{Asking, GoesOn, answered, asked, asked_to_s
 use Rattle.gw_service.specs.Reload.{taken_over_line}
 use Rattle.gw_service.specs.Chain.{AreLinks, IsLink, IsLooked, IsUnrequested, Link, Look, Manner, Runs, RunsToStop, Stage, Standing, announced_at}
 use Rattle.gw_service.specs.Chain.{ended, inquired, passed_over, refused, served, stopping, taken_over, ticked, unrequested, withheld}
-use Rattle.gw_service.specs.declared.running.End.{End}
-use Rattle.gw_service.specs.declared.running.End.TheVariants as end
+use Rattle.gw_service.specs.declared.running.RunEnd.{RunEnd}
+use Rattle.gw_service.specs.declared.running.RunEnd.TheVariants as end
 use Rattle.gw_wire.specs.declared.store.StoreFault.{StoreFault}
 use Rattle.gw_service.specs.Fault.{fault_of_serving}
 use Rattle.gw_service.specs.Keeping.{IsKeptAtTick, IsKeptFor, IsPassed, failing_in, troubles_in}
@@ -283,7 +283,7 @@ stopped c count before after moment last turns f event unwritten fewer went ends
     })
 
 run_serves : {S : Type 0} (held : S → Option (List ℕ)) (how : Reporting) (count : ℕ) (c : Configuration) (before after : Ends)
-    (s t : Stage (Kept S)) (answer : Result End ServeFault) (failing : Option StoreFault) (links : List Link)
+    (s t : Stage (Kept S)) (answer : Result RunEnd ServeFault) (failing : Option StoreFault) (links : List Link)
     → Runs (manner_of held how) count s answer links t → s.requests ≡ nobody → s.now.guard ≡ Nowhere → IsQuiet s.now.scene.gateway
     → LeadTo (first_scene c before) [] s.now.scene → t.now.scene.log ≡ after.log → t.now.scene.calls ≡ after.calls
     → Serves c count before after (outcome_by answer failing)

@@ -7,7 +7,7 @@ use Rattle.gw_script.specs.Event as event
 use Rattle.gw_turns.specs.Both.{second_moment}
 use Rattle.gw_core.specs.Guard.{LetsAllGo}
 use Rattle.gw_turns.specs.Serve.{Turn, taken_event}
-use Rattle.gw_core.specs.declared.guard.Both.{Both}
+use Rattle.gw_core.specs.declared.guard.BothGuards.{BothGuards}
 use Rattle.gw_turns.specs.declared.serving.ServeFault.{ServeFault}
 use Rattle.gw_turns.proofs.BothLemmas.{second_goes, second_withheld, under_second}
 use Rattle.gw_system.specs.Requests.{Asking, Exchange, GoesOn, answered, asked, asked_to_say, asked_to_stop, known, nobody, silent, unasked, untaken}
@@ -18,8 +18,8 @@ use Rattle.gw_service.specs.Chain.{ended, inquired, passed_over, refused, served
 use Rattle.gw_core.specs.Resumed.{saved}
 use Rattle.gw_service.specs.Reload.{taken_over_line}
 use Rattle.gw_service.specs.Start.{counts_of}
-use Rattle.gw_service.specs.declared.running.End.{End}
-use Rattle.gw_service.specs.declared.running.End.TheVariants as end
+use Rattle.gw_service.specs.declared.running.RunEnd.{RunEnd}
+use Rattle.gw_service.specs.declared.running.RunEnd.TheVariants as end
 use Rattle.gw_core.specs.declared.event.Counts.{Counts}
 use Rattle.gw_service.specs.Keeping.{IsKeptFor, IsPassed, failing_in, troubles_in, unkept_in}
 use Rattle.gw_service.specs.Kept.{AnswersStop, EndsRun, Given, Rest, reporting_of, rest, stop_text, unkept_of, watched_manner_of}
@@ -72,11 +72,11 @@ says_hushed true (known recorded) nobody answer other goes = absurd goes
 says_hushed true (known recorded) silent answer other goes = refl
 says_hushed true (known recorded) (known now) answer other goes = refl
 
-abbrev unwatched : {S L : Type 0} → (quiet : Bool) → Stage (Both (Watching L L) (Kept S)) → Stage (Kept S)
+abbrev unwatched : {S L : Type 0} → (quiet : Bool) → Stage (BothGuards (Watching L L) (Kept S)) → Stage (Kept S)
 unwatched quiet s =
     stage s.config (second_moment s.now) (hushed quiet s.requests) s.counts s.announcing (of_state s.said.state) s.metrics
 
-abbrev standing_of : {S L : Type 0} → (quiet : Bool) → Standing (Both (Watching L L) (Kept S)) → Standing (Kept S)
+abbrev standing_of : {S L : Type 0} → (quiet : Bool) → Standing (BothGuards (Watching L L) (Kept S)) → Standing (Kept S)
 standing_of quiet s = standing s.gateway s.keeper.second (hushed quiet s.requests) s.counts s.announcing
 
 -- what comes of a look then: a request to say what is counted is answered by this report
@@ -104,14 +104,14 @@ says_it report (inquired answer) = inl refl
 says_it report (refused read fault line) = tt
 says_it report (taken_over text new) = tt
 
-looked : {S L : Type 0} (held : S → _) (quiet : Bool) (report : List ℕ) (c d : Configuration) (s t : Standing (Both (Watching L L) (Kept S)))
+looked : {S L : Type 0} (held : S → _) (quiet : Bool) (report : List ℕ) (c d : Configuration) (s t : Standing (BothGuards (Watching L L) (Kept S)))
     (look : Look) → IsLooked (IsKeptForBeside held) c s look d t
     → IsLooked (IsKeptFor held) c (standing_of quiet s) (other_look report look) d (standing_of true t)
 looked held quiet report c d s t unrequested is = record {
   stays = record {
     config = is.stays.config;
     gateway = is.stays.gateway;
-    keeper = ap (λ (k : Both _ _). k.second) is.stays.keeper;
+    keeper = ap (λ (k : BothGuards _ _). k.second) is.stays.keeper;
     announcing = is.stays.announcing;
   };
   requests = goes_hushed quiet s.requests t.requests (unasked ∷ []) is.requests;
@@ -121,7 +121,7 @@ looked held quiet report c d s t passed_over is = record {
   stays = record {
     config = is.stays.config;
     gateway = is.stays.gateway;
-    keeper = ap (λ (k : Both _ _). k.second) is.stays.keeper;
+    keeper = ap (λ (k : BothGuards _ _). k.second) is.stays.keeper;
     announcing = is.stays.announcing;
   };
   requests = goes_hushed quiet s.requests t.requests (untaken ∷ []) is.requests;
@@ -131,7 +131,7 @@ looked held quiet report c d s t stopping is = record {
   stays = record {
     config = is.stays.config;
     gateway = is.stays.gateway;
-    keeper = ap (λ (k : Both _ _). k.second) is.stays.keeper;
+    keeper = ap (λ (k : BothGuards _ _). k.second) is.stays.keeper;
     announcing = is.stays.announcing;
   };
   requests = goes_hushed quiet s.requests t.requests (asked_to_stop ∷ []) is.requests;
@@ -141,7 +141,7 @@ looked held quiet report c d s t (inquired answer) is = record {
   stays = record {
     config = is.stays.config;
     gateway = is.stays.gateway;
-    keeper = ap (λ (k : Both _ _). k.second) is.stays.keeper;
+    keeper = ap (λ (k : BothGuards _ _). k.second) is.stays.keeper;
     announcing = is.stays.announcing;
   };
   requests = says_hushed quiet s.requests t.requests answer report is.requests;
@@ -153,7 +153,7 @@ looked held quiet report c d s t (refused read fault line) is = record {
   stays = record {
     config = is.stays.config;
     gateway = is.stays.gateway;
-    keeper = ap (λ (k : Both _ _). k.second) is.stays.keeper;
+    keeper = ap (λ (k : BothGuards _ _). k.second) is.stays.keeper;
     announcing = is.stays.announcing;
   };
   requests = goes_hushed quiet s.requests t.requests (asked read ∷ answered line ∷ []) is.requests;
@@ -174,7 +174,7 @@ looked held quiet report c d s t (taken_over text new) is = record {
 
 -- after a tick, whether the gateway is to stop or not
 ticks : {S L : Type 0} (held : S → _) (log_held : L → _) (how : Reporting) (stops quiet : Bool)
-    (s t : Stage (Both (Watching L L) (Kept S))) (turns : List Turn) (look : Look) (text : List ℕ)
+    (s t : Stage (BothGuards (Watching L L) (Kept S))) (turns : List Turn) (look : Look) (text : List ℕ)
     → IsTicked (watched_manner_of held log_held how) stops s turns look text t
     → (report other : List ℕ) × IsTicked (manner_of held how) stops (unwatched quiet s) turns (other_look report look) other (unwatched true t)
 ticks held log_held how stops quiet s t turns look text is =
@@ -212,7 +212,7 @@ ticks held log_held how stops quiet s t turns look text is =
     )
 
 -- turns that were served
-serves : {S L : Type 0} (held : S → _) (log_held : L → _) (how : Reporting) (quiet : Bool) (s t : Stage (Both (Watching L L) (Kept S)))
+serves : {S L : Type 0} (held : S → _) (log_held : L → _) (how : Reporting) (quiet : Bool) (s t : Stage (BothGuards (Watching L L) (Kept S)))
     (turns : List Turn) → IsServed (watched_manner_of held log_held how) s turns t
     → IsServed (manner_of held how) (unwatched quiet s) turns (unwatched quiet t)
 serves held log_held how quiet s t turns is = record {
@@ -225,7 +225,7 @@ serves held log_held how quiet s t turns is = record {
   said = ap (λ (x : Troubles). of_state x.state) is.said;
 }
 
-linked : {S L : Type 0} (held : S → _) (log_held : L → _) (how : Reporting) (quiet : Bool) (s t : Stage (Both (Watching L L) (Kept S)))
+linked : {S L : Type 0} (held : S → _) (log_held : L → _) (how : Reporting) (quiet : Bool) (s t : Stage (BothGuards (Watching L L) (Kept S)))
     (link : Link) → IsLink (watched_manner_of held log_held how) s link t
     → (other : Link) × (later : Bool) × IsLink (manner_of held how) (unwatched quiet s) other (unwatched later t)
 linked held log_held how quiet s t (served turns) is = (served turns, quiet, serves held log_held how quiet s t turns is)
@@ -255,7 +255,7 @@ linked held log_held how quiet s t (withheld turns event text) is = (
 )
 linked held log_held how quiet s t (ended turns text) is = absurd is
 
-chained : {S L : Type 0} (held : S → _) (log_held : L → _) (how : Reporting) (quiet : Bool) (s t : Stage (Both (Watching L L) (Kept S)))
+chained : {S L : Type 0} (held : S → _) (log_held : L → _) (how : Reporting) (quiet : Bool) (s t : Stage (BothGuards (Watching L L) (Kept S)))
     (links : List Link) → AreLinks (watched_manner_of held log_held how) s links t
     → (others : List Link) × (later : Bool) × AreLinks (manner_of held how) (unwatched quiet s) others (unwatched later t)
 unfolding AreLinks
@@ -267,8 +267,8 @@ chained held log_held how quiet s t (link ∷ links) chain =
 
 -- ---- a run
 
-ran : {S L : Type 0} (held : S → _) (log_held : L → _) (how : Reporting) (count : ℕ) (s t : Stage (Both (Watching L L) (Kept S)))
-    (answer : Result End ServeFault) (links : List Link) → Runs (watched_manner_of held log_held how) count s answer links t
+ran : {S L : Type 0} (held : S → _) (log_held : L → _) (how : Reporting) (count : ℕ) (s t : Stage (BothGuards (Watching L L) (Kept S)))
+    (answer : Result RunEnd ServeFault) (links : List Link) → Runs (watched_manner_of held log_held how) count s answer links t
     → (others : List Link) × (later : Bool) × Runs (manner_of held how) count (unwatched false s) answer others (unwatched later t)
 ran held log_held how count s t (Ok end.Turns) links runs =
     let chain = chained held log_held how false s t links runs.chain in (chain.0, chain.1, record { chain = chain.2; turns = runs.turns })
@@ -327,13 +327,13 @@ ran held log_held how count s t (Err fault) links runs =
     )
 
 -- what is known of requests at the end
-abbrev left_of : Result End ServeFault → (quiet : Bool) → Asking → Asking
+abbrev left_of : Result RunEnd ServeFault → (quiet : Bool) → Asking → Asking
 left_of (Ok end.Turns) quiet q = hushed quiet q
 left_of (Ok end.Stopped) quiet q = hushed true q
 left_of (Ok end.Unsynced) quiet q = hushed quiet q
 left_of (Err fault) quiet q = hushed quiet q
 
-answers_hushed : (answer : Result End ServeFault) (failing : Option StoreFault) (quiet : Bool) (before after : Asking)
+answers_hushed : (answer : Result RunEnd ServeFault) (failing : Option StoreFault) (quiet : Bool) (before after : Asking)
     → AnswersStop answer failing before after → AnswersStop answer failing (hushed quiet before) (left_of answer quiet after)
 answers_hushed (Ok end.Turns) failing quiet before after is = ap (hushed quiet) is
 answers_hushed (Ok end.Stopped) failing quiet before after is = goes_hushed quiet before after (answered (stop_line failing) ∷ []) is
@@ -341,8 +341,8 @@ answers_hushed (Ok end.Unsynced) failing quiet before after is = ap (hushed quie
 answers_hushed (Err fault) failing quiet before after is = ap (hushed quiet) is
 
 -- what is done at the end
-ends : {S L : Type 0} (held : S → _) (log_held : L → _) (how : Reporting) (quiet : Bool) (start : Counts) (answer : Result End ServeFault)
-    (last : Stage (Both (Watching L L) (Kept S))) (left : Rest (Both (Watching L L) (Kept S))) (text : List ℕ)
+ends : {S L : Type 0} (held : S → _) (log_held : L → _) (how : Reporting) (quiet : Bool) (start : Counts) (answer : Result RunEnd ServeFault)
+    (last : Stage (BothGuards (Watching L L) (Kept S))) (left : Rest (BothGuards (Watching L L) (Kept S))) (text : List ℕ)
     → EndsRun (watched_manner_of held log_held how) (end_stats unkept_of more_of how) start answer last left text
     → (other : List ℕ) × EndsRun (manner_of held how) (end_stats unkept_in no_more how) start answer (unwatched quiet last)
     (rest left.keeper.second (left_of answer quiet left.requests)) other

@@ -18,7 +18,7 @@ use Rattle.gw_turns.specs.Stretch.{EndsFaulty, GoOn, IsWithheld, Moment}
 use Rattle.gw_wire.specs.Wire.{Call}
 use Rattle.gw_turns.specs.declared.serving.ServeFault.{ServeFault}
 use Rattle.gw_turns.specs.declared.serving.Served.{Served}
-use Rattle.gw_turns.specs.declared.tally.Tally.{Tally}
+use Rattle.gw_turns.specs.declared.tally.DropTally.{DropTally}
 use Rattle.gw_system.specs.Requests.{Asking, Exchange, GoesOn, answered, asked, asked_to_say, asked_to_stop, unasked, untaken}
 use Rattle.gw_system.specs.declared.reading.ReadFailure.{ReadFailure}
 use Rattle.gw_notices.specs.Checksum.{checksum_of}
@@ -27,8 +27,8 @@ use Rattle.gw_service.specs.Reload.{IsRefused, have_same_ports, taken_over_line}
 use Rattle.gw_notices.specs.metrics.Writing.{Metering}
 use Rattle.gw_notices.specs.Notices.{IsStatusAnswer, metrics_notice, notice_of, untaken_line}
 use Rattle.gw_service.specs.Metering.{failing_by, lost_by}
-use Rattle.gw_service.specs.declared.running.End.{End}
-use Rattle.gw_service.specs.declared.running.End.TheVariants as end
+use Rattle.gw_service.specs.declared.running.RunEnd.{RunEnd}
+use Rattle.gw_service.specs.declared.running.RunEnd.TheVariants as end
 use Rattle.gw_notices.specs.declared.reload.ReloadCounts.{ReloadCounts}
 use Rattle.gw_notices.specs.declared.reload.ReloadFault.{ReloadFault}
 use Rattle.gw_notices.specs.declared.troubles.Troubles.{Troubles}
@@ -43,15 +43,15 @@ pub record Manner (K : Type 0) : Type 1 where
   pub Ticks : K → State → K → Type 0
   pub Adopts : K → Configuration → State → K → Type 0
   pub troubles : K → Troubles
-  pub report : K → ReloadCounts → Announcing → Option ℕ → State → Served → Tally → List ℕ
-  pub status : K → ReloadCounts → Announcing → Option ℕ → State → Served → Tally → List ℕ
-  pub Meters : State → Served → Tally → (before after : Option Metering) → Type 0
+  pub report : K → ReloadCounts → Announcing → Option ℕ → State → Served → DropTally → List ℕ
+  pub status : K → ReloadCounts → Announcing → Option ℕ → State → Served → DropTally → List ℕ
+  pub Meters : State → Served → DropTally → (before after : Option Metering) → Type 0
   pub Lasts : K → State → K → Type 0
 
 abbrev pub manner : {K : Type 0} → (K → State → Event → K → Bool → Type 0) → (K → State → K → Type 0)
     → (K → Configuration → State → K → Type 0) → (K → Troubles)
-    → (report status : K → ReloadCounts → Announcing → Option ℕ → State → Served → Tally → List ℕ)
-    → (State → Served → Tally → (before after : Option Metering) → Type 0) → (K → State → K → Type 0) → Manner K
+    → (report status : K → ReloadCounts → Announcing → Option ℕ → State → Served → DropTally → List ℕ)
+    → (State → Served → DropTally → (before after : Option Metering) → Type 0) → (K → State → K → Type 0) → Manner K
 manner Passes Ticks Adopts troubles report status Meters Lasts = record {
   Passes = Passes;
   Ticks = Ticks;
@@ -386,7 +386,7 @@ pub record RunsUnsynced {K : Type 0} (manner : Manner K) (count : ℕ) (first : 
   pub most : last.now.served.turns ≤ first.now.served.turns + count
 
 -- what a run of so many turns leads to, by its answer
-abbrev pub Runs : {K : Type 0} → Manner K → ℕ → Stage K → Result End ServeFault → List Link → Stage K → Type 0
+abbrev pub Runs : {K : Type 0} → Manner K → ℕ → Stage K → Result RunEnd ServeFault → List Link → Stage K → Type 0
 Runs manner count first (Ok end.Turns) links last = RunsWhole manner count first links last
 Runs manner count first (Ok end.Stopped) links last = RunsToStop manner first links last
 Runs manner count first (Ok end.Unsynced) links last = RunsUnsynced manner count first links last
@@ -438,12 +438,12 @@ pub record AdvancesUnsynced {K : Type 0} (manner : Manner K) (count : ℕ) (s : 
   pub failed : edge.Unsynced
 
 -- how a run ends after a tick, if it is asked to stop then
-abbrev pub end_of : (stops : Bool) → Option End
+abbrev pub end_of : (stops : Bool) → Option RunEnd
 end_of true = Some end.Stopped
 end_of false = None
 
 -- what comes of a stretch of at most so many turns and of what is done after it, with what is reported then
-abbrev pub Advances : {K : Type 0} → Manner K → ℕ → Stage K → Result (Option End) ServeFault → List ℕ → Stage K → Edge → Type 0
+abbrev pub Advances : {K : Type 0} → Manner K → ℕ → Stage K → Result (Option RunEnd) ServeFault → List ℕ → Stage K → Edge → Type 0
 Advances manner count s (Ok None) text t edge = AdvancesBy manner false s text t edge
 Advances manner count s (Ok (Some end.Turns)) text t edge = ⊥
 Advances manner count s (Ok (Some end.Stopped)) text t edge = AdvancesBy manner true s text t edge

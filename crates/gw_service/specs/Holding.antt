@@ -21,9 +21,9 @@ use Rattle.gw_service.specs.Chain.{EndsSo, IsLink, IsServed, IsTicked, Link, Man
 use Rattle.gw_service.specs.Metering.{metered, meters_by}
 use Rattle.gw_service.specs.Stats.{Reporting, all_stats, due_stats}
 use Rattle.gw_service.specs.declared.holding.Holding.{Holding}
-use Rattle.gw_service.specs.declared.running.End.{End}
+use Rattle.gw_service.specs.declared.running.RunEnd.{RunEnd}
 use Rattle.gw_service.specs.declared.running.Running.{Running}
-use Rattle.gw_service.specs.declared.running.End.TheVariants as end
+use Rattle.gw_service.specs.declared.running.RunEnd.TheVariants as end
 
 -- ---- what withholds
 
@@ -284,7 +284,7 @@ steps_text steps = flat_map step_text steps
 abbrev pub Over : {K : Type 0} → (Stage (Holding K) → Stage (Holding K) → Type 0) → Hold K → Hold K → Type 0
 Over Comes s t = OverLog Comes s t ⊎ OverWaiting Comes s t
 
-abbrev pub EndsHolding : {K : Type 0} → Manner (Holding K) → Result End ServeFault → Hold K → (text : List ℕ) → Hold K → Type 0
+abbrev pub EndsHolding : {K : Type 0} → Manner (Holding K) → Result RunEnd ServeFault → Hold K → (text : List ℕ) → Hold K → Type 0
 EndsHolding manner (Ok end.Turns) s text t = (t ≡ s) × (text ≡ [])
 EndsHolding manner (Ok end.Stopped) s text t = Over (λ a b. (turns : List Turn) × IsTicked manner true a turns stopping text b) s t
 EndsHolding manner (Ok end.Unsynced) s text t = Over (λ a b. (turns : List Turn) × IsServed manner a turns b) s t × (text ≡ [])
@@ -292,20 +292,20 @@ EndsHolding manner (Err fault) s text t =
     Over (λ a b. (count : ℕ) × (unwritten : List ℕ) × EndsSo manner count fault unwritten a b) s t × (text ≡ [])
 
 -- the log failed
-abbrev pub has_log_failed : Result (Option End) ServeFault → Bool
+abbrev pub has_log_failed : Result (Option RunEnd) ServeFault → Bool
 has_log_failed (Ok how) = false
 has_log_failed (Err serving.Log) = true
 has_log_failed (Err serving.Memory) = false
 has_log_failed (Err serving.CountEnd) = false
 
 -- serving goes on
-abbrev pub goes_on : Result (Option End) ServeFault → Bool
+abbrev pub goes_on : Result (Option RunEnd) ServeFault → Bool
 goes_on (Ok None) = true
 goes_on (Ok (Some how)) = false
 goes_on (Err fault) = false
 
 -- what comes of a stretch and of what is done after it, by its answer: steps, or serving ended so
-abbrev pub GoesTo : {K : Type 0} → Manner (Holding K) → Hold K → Result (Option End) ServeFault → (text : List ℕ) → Hold K → Type 0
+abbrev pub GoesTo : {K : Type 0} → Manner (Holding K) → Hold K → Result (Option RunEnd) ServeFault → (text : List ℕ) → Hold K → Type 0
 GoesTo manner s (Ok None) text t = (steps : List Step) × AreSteps manner s steps t × (text ≡ steps_text steps)
 GoesTo manner s (Ok (Some end.Turns)) text t = ⊥
 GoesTo manner s (Ok (Some end.Stopped)) text t = EndsHolding manner (Ok end.Stopped) s text t
@@ -317,7 +317,7 @@ abbrev pub Finishes : {K : Type 0} → Hold K → (text : List ℕ) → Hold K �
 Finishes s text t = ((s.waiting ≡ []) × (t ≡ s) × (text ≡ [])) ⊎ ((front : List ℕ) × IsWritten s front text t)
 
 -- Steps lead to where the last stretch ends serving, after so many turns if it had them all.
-pub record ServesHolding {K : Type 0} (manner : Manner (Holding K)) (count : ℕ) (first : Hold K) (how : Result End ServeFault) (text : List ℕ)
+pub record ServesHolding {K : Type 0} (manner : Manner (Holding K)) (count : ℕ) (first : Hold K) (how : Result RunEnd ServeFault) (text : List ℕ)
     (last : Hold K) : Type 0 where
   pub steps : List Step
   pub after : Hold K
@@ -328,17 +328,17 @@ pub record ServesHolding {K : Type 0} (manner : Manner (Holding K)) (count : ℕ
   pub says : text ≡ steps_text steps ++ end_text
 
 -- If the log lacks something at the end, that is why the run ended.
-abbrev pub answer_by : (has_all : Bool) → Result End ServeFault → Result End ServeFault
+abbrev pub answer_by : (has_all : Bool) → Result RunEnd ServeFault → Result RunEnd ServeFault
 answer_by true how = how
 answer_by false how = Err serving.Log
 
-abbrev pub answer_holding : (waiting : List ℕ) → Result End ServeFault → Result End ServeFault
+abbrev pub answer_holding : (waiting : List ℕ) → Result RunEnd ServeFault → Result RunEnd ServeFault
 answer_holding waiting how = answer_by (length waiting == 0) how
 
 -- So a run is served that may hold, and at the end what waits is tried to be written once more.
-pub record RunsHolding {K : Type 0} (manner : Manner (Holding K)) (count : ℕ) (first : Hold K) (answer : Result End ServeFault) (text : List ℕ)
+pub record RunsHolding {K : Type 0} (manner : Manner (Holding K)) (count : ℕ) (first : Hold K) (answer : Result RunEnd ServeFault) (text : List ℕ)
     (last : Hold K) : Type 0 where
-  pub how : Result End ServeFault
+  pub how : Result RunEnd ServeFault
   pub served_text : List ℕ
   pub middle : Hold K
   pub serves : ServesHolding manner count first how served_text middle

@@ -15,10 +15,10 @@ use Rattle.gw_turns.specs.Stretch.{moment}
 use Rattle.gw_turns.specs.Tally.{no_tally}
 use Rattle.gw_turns.specs.declared.announcing.Announcing.{Announcing}
 use Rattle.gw_turns.specs.declared.serving.ServeFault.{ServeFault}
-use Rattle.gw_core.specs.declared.guard.Both.{Both}
+use Rattle.gw_core.specs.declared.guard.BothGuards.{BothGuards}
 use Rattle.gw_turns.specs.declared.serving.Served.{Served}
 use Rattle.gw_wire.specs.declared.store.StoreFault.{StoreFault}
-use Rattle.gw_turns.specs.declared.tally.Tally.{Tally}
+use Rattle.gw_turns.specs.declared.tally.DropTally.{DropTally}
 use Rattle.gw_system.specs.Host.{LogOpening}
 use Rattle.gw_watchers.specs.Watching.{HasWatched, Watching}
 use Rattle.gw_system.specs.Opening.{IsNote}
@@ -31,8 +31,8 @@ use Rattle.gw_system.specs.declared.store.StoreKind.TheVariants as kind
 use Rattle.gw_service.specs.Chain.{Begins, Link, Manner, Runs, Stage, chain_text, manner, stage}
 use Rattle.gw_service.specs.Holding.{Hold, RunsHolding, hold, holding_manner, more_holding, unheld}
 use Rattle.gw_service.specs.declared.holding.Holding.{Holding}
-use Rattle.gw_service.specs.declared.running.End.{End}
-use Rattle.gw_service.specs.declared.running.End.TheVariants as end
+use Rattle.gw_service.specs.declared.running.RunEnd.{RunEnd}
+use Rattle.gw_service.specs.declared.running.RunEnd.TheVariants as end
 use Rattle.gw_notices.specs.metrics.Writing.{Metering, nothing_written}
 use Rattle.gw_notices.specs.Parts.{IsTrialLine}
 use Rattle.gw_notices.specs.Startup.{IsWarning, startup_line}
@@ -180,11 +180,11 @@ given held said log_held before = record {
 }
 
 -- what watches a gateway, and then keeps its state by a store: what is recorded of an event is written before its state is kept
-abbrev pub unkept_of : {S L : Type 0} → Both (Watching L L) (Kept S) → ℕ
+abbrev pub unkept_of : {S L : Type 0} → BothGuards (Watching L L) (Kept S) → ℕ
 unkept_of k = unkept_in k.second
 
 abbrev pub watched_manner_of : {S L : Type 0} → (S → Option (List ℕ)) → (L → Option (List ℕ)) → Reporting
-    → Manner (Both (Watching L L) (Kept S))
+    → Manner (BothGuards (Watching L L) (Kept S))
 watched_manner_of held log_held how =
     manner (PassesBoth (HasWatched log_held log_held) (IsPassed held)) (IsKeptAtTickBeside held) (IsKeptForBeside held) troubles_of
     (due_stats unkept_of more_of how) (all_stats unkept_of more_of how) (meters_by how.start) (IsKeptLastBeside held)
@@ -195,7 +195,7 @@ outcome_of_stop None = Ok tt
 outcome_of_stop (Some f) = Err (fault.Store f)
 
 -- the outcome of a run, by the answer of serving
-abbrev pub outcome_by : Result End ServeFault → (failing : Option StoreFault) → Result (Unit {0}) ServiceFault
+abbrev pub outcome_by : Result RunEnd ServeFault → (failing : Option StoreFault) → Result (Unit {0}) ServiceFault
 outcome_by (Ok end.Turns) failing = Ok tt
 outcome_by (Ok end.Stopped) failing = outcome_of_stop failing
 outcome_by (Ok end.Unsynced) failing = Err fault.Log
@@ -207,27 +207,27 @@ status_or (Ok text) = text.items
 status_or (Err failed) = no_status_line
 
 -- the gateway was asked to stop
-abbrev pub is_stopped : Result End ServeFault → Bool
+abbrev pub is_stopped : Result RunEnd ServeFault → Bool
 is_stopped (Ok end.Turns) = false
 is_stopped (Ok end.Stopped) = true
 is_stopped (Ok end.Unsynced) = false
 is_stopped (Err fault) = false
 
 -- what is answered and reported at the end, if the gateway was asked to stop
-abbrev pub stop_text : Result End ServeFault → (failing : Option StoreFault) → List ℕ
+abbrev pub stop_text : Result RunEnd ServeFault → (failing : Option StoreFault) → List ℕ
 stop_text (Ok end.Turns) failing = []
 stop_text (Ok end.Stopped) failing = stop_line failing
 stop_text (Ok end.Unsynced) failing = []
 stop_text (Err fault) failing = []
 
-abbrev pub AnswersStop : Result End ServeFault → (failing : Option StoreFault) → (before after : Asking) → Type 0
+abbrev pub AnswersStop : Result RunEnd ServeFault → (failing : Option StoreFault) → (before after : Asking) → Type 0
 AnswersStop (Ok end.Turns) failing before after = after ≡ before
 AnswersStop (Ok end.Stopped) failing before after = GoesOn before after (answered (stop_line failing) ∷ [])
 AnswersStop (Ok end.Unsynced) failing before after = after ≡ before
 AnswersStop (Err fault) failing before after = after ≡ before
 
 -- the metrics are put once more then
-abbrev pub MetersEnd : Result End ServeFault → Option Metering → Option ℕ → Option Metering → Type 0
+abbrev pub MetersEnd : Result RunEnd ServeFault → Option Metering → Option ℕ → Option Metering → Type 0
 MetersEnd (Ok end.Turns) before seconds after = after ≡ before
 MetersEnd (Ok end.Stopped) before seconds after = MetersLast before seconds after
 MetersEnd (Ok end.Unsynced) before seconds after = after ≡ before
@@ -256,8 +256,8 @@ rest keeper requests = record { keeper = keeper; requests = requests }
 
 -- what a run does at its end, from the last stage of it: it keeps its state once more, whatever ended it; if it was asked to stop,
 -- it puts its metrics once more; it reports what was done; and if it was asked to stop, it answers that
-pub record EndsRun {K : Type 0} (manner : Manner K) (last_report : K → ReloadCounts → Announcing → Option ℕ → State → Served → Tally → List ℕ)
-    (start : Counts) (answer : Result End ServeFault) (last : Stage K) (left : Rest K) (text : List ℕ) : Type 0 where
+pub record EndsRun {K : Type 0} (manner : Manner K) (last_report : K → ReloadCounts → Announcing → Option ℕ → State → Served → DropTally → List ℕ)
+    (start : Counts) (answer : Result RunEnd ServeFault) (last : Stage K) (left : Rest K) (text : List ℕ) : Type 0 where
   pub keeps : manner.Lasts last.now.guard last.now.scene.gateway left.keeper
   pub metrics : Option Metering
   pub put : MetersEnd answer last.metrics (seconds_of start last.now.scene.gateway last.now.served last.now.tally) metrics
@@ -267,8 +267,8 @@ pub record EndsRun {K : Type 0} (manner : Manner K) (last_report : K → ReloadC
 
 -- A run of so many turns from a stage, by its answer: what isn't kept or recorded is reported first, then what is due is announced,
 -- before the first turn, and last is what it does at its end.
-pub record RunsFrom {K : Type 0} (manner : Manner K) (last_report : K → ReloadCounts → Announcing → Option ℕ → State → Served → Tally → List ℕ)
-    (start : Counts) (turns : ℕ) (first : Stage K) (answer : Result End ServeFault) (after : Ends) (left : Rest K) (text : List ℕ) : Type 0 where
+pub record RunsFrom {K : Type 0} (manner : Manner K) (last_report : K → ReloadCounts → Announcing → Option ℕ → State → Served → DropTally → List ℕ)
+    (start : Counts) (turns : ℕ) (first : Stage K) (answer : Result RunEnd ServeFault) (after : Ends) (left : Rest K) (text : List ℕ) : Type 0 where
   pub begun : Stage K
   pub begins : Begins first begun
   pub links : List Link
@@ -283,8 +283,8 @@ pub record RunsFrom {K : Type 0} (manner : Manner K) (last_report : K → Reload
 -- A run from a stage, while nothing waits: what isn't kept or recorded is reported first, then what is due is announced, and last is
 -- what it does at its end.
 pub record RunsFromHolding {K : Type 0} (manner : Manner (Holding K))
-    (last_report : Holding K → ReloadCounts → Announcing → Option ℕ → State → Served → Tally → List ℕ)
-    (start : Counts) (turns : ℕ) (first : Stage (Holding K)) (answer : Result End ServeFault) (after : Ends) (left : Rest (Holding K)) (text : List ℕ)
+    (last_report : Holding K → ReloadCounts → Announcing → Option ℕ → State → Served → DropTally → List ℕ)
+    (start : Counts) (turns : ℕ) (first : Stage (Holding K)) (answer : Result RunEnd ServeFault) (after : Ends) (left : Rest (Holding K)) (text : List ℕ)
     : Type 0 where
   pub begun : Stage (Holding K)
   pub begins : Begins first begun
@@ -303,11 +303,11 @@ pub record RunsWatched {S Q L : Type 0} (given : Given S Q L) (c : Configuration
     (outcome : Result (Unit {0}) ServiceFault) : Type 0 where
   pub gateway : State
   pub begins : BeginsAs c given.saved given.line gateway
-  pub keeper : Both (Watching L L) (Kept S)
+  pub keeper : BothGuards (Watching L L) (Kept S)
   pub keeps : KeepsFirst given.held given.store c gateway keeper.second
   pub watches : keeper.first ≡ given.watcher
-  pub answer : Result End ServeFault
-  pub left : Rest (Both (Watching L L) (Kept S))
+  pub answer : Result RunEnd ServeFault
+  pub left : Rest (BothGuards (Watching L L) (Kept S))
   pub runs : RunsFrom (watched_manner_of given.held given.log_held (reporting_of given how gateway))
       (end_stats unkept_of more_of (reporting_of given how gateway)) (counts_of gateway) how.turns
       (first_stage given c gateway keeper (troubles_of keeper) before) answer after left text
@@ -315,7 +315,7 @@ pub record RunsWatched {S Q L : Type 0} (given : Given S Q L) (c : Configuration
 
 -- It may go on if its log fails: what watches and keeps the state is in what withholds what is denied while lines wait.
 abbrev pub watched_holding_manner_of : {S L : Type 0} → (S → Option (List ℕ)) → (L → Option (List ℕ)) → Reporting
-    → Manner (Holding (Both (Watching L L) (Kept S)))
+    → Manner (Holding (BothGuards (Watching L L) (Kept S)))
 watched_holding_manner_of held log_held how =
     holding_manner (PassesBoth (HasWatched log_held log_held) (IsPassed held)) (IsKeptAtTickBeside held) (IsKeptForBeside held) troubles_of
     unkept_of more_of how (IsKeptLastBeside held)
@@ -324,11 +324,11 @@ pub record HoldsWatched {S Q L : Type 0} (given : Given S Q L) (c : Configuratio
     (outcome : Result (Unit {0}) ServiceFault) : Type 0 where
   pub gateway : State
   pub begins : BeginsAs c given.saved given.line gateway
-  pub keeper : Both (Watching L L) (Kept S)
+  pub keeper : BothGuards (Watching L L) (Kept S)
   pub keeps : KeepsFirst given.held given.store c gateway keeper.second
   pub watches : keeper.first ≡ given.watcher
-  pub answer : Result End ServeFault
-  pub left : Rest (Holding (Both (Watching L L) (Kept S)))
+  pub answer : Result RunEnd ServeFault
+  pub left : Rest (Holding (BothGuards (Watching L L) (Kept S)))
   pub runs : RunsFromHolding (watched_holding_manner_of given.held given.log_held (reporting_of given how gateway))
       (end_stats (λ h. unkept_of h.keeper) (more_holding more_of) (reporting_of given how gateway)) (counts_of gateway) how.turns
       (first_stage given c gateway (unheld keeper) (troubles_of keeper) before) answer after left text

@@ -12,7 +12,7 @@ use Rattle.gw_turns.specs.declared.serving.ServeFault.{ServeFault}
 use Rattle.gw_system.specs.Requests.{nobody}
 use Rattle.gw_service.specs.Chain.{AreLinks, Link, Manner, Runs, Stage}
 use Rattle.gw_service.specs.Chain.{ended, served, ticked, unrequested, withheld}
-use Rattle.gw_service.specs.declared.running.End.{End}
+use Rattle.gw_service.specs.declared.running.RunEnd.{RunEnd}
 use Rattle.gw_configuration.specs.Configuration.{Configuration}
 use Rattle.gw_service.specs.Counts.{GoesOnFrom}
 use Rattle.gw_service.specs.Edition.{IsEdition}
@@ -93,7 +93,7 @@ pub record StaysUnasked {K : Type 0} (s : Stage K) (links : List Link) (t : Stag
 -- So is a run, however it ends, if nobody asks at its begin.
 abbrev pub NobodyAsks : {K : Type 0} → Manner K → Type 0
 NobodyAsks {K} manner =
-    (count : ℕ) (s t : Stage K) (answer : Result End ServeFault) (links : List Link) → Runs manner count s answer links t
+    (count : ℕ) (s t : Stage K) (answer : Result RunEnd ServeFault) (links : List Link) → Runs manner count s answer links t
     → s.requests ≡ nobody → StaysUnasked s links t
 
 -- A run that keeps no state, looks for no request, announces nothing and doesn't go on if its log fails, but may report or be watched, is one of `serve` from the

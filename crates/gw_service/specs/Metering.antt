@@ -6,7 +6,7 @@ use Rattle.gw_core.specs.declared.event.Counts.{Counts}
 use Rattle.gw_notices.specs.metrics.Writing.{IsTriedAt, Metering, MetersAtTick, Writing, metering_of}
 use Rattle.gw_turns.specs.Reports.{has_gone_on, report_of}
 use Rattle.gw_turns.specs.declared.serving.Served.{Served}
-use Rattle.gw_turns.specs.declared.tally.Tally.{Tally}
+use Rattle.gw_turns.specs.declared.tally.DropTally.{DropTally}
 use Rattle.gw_wire.specs.declared.store.StoreFault.{StoreFault}
 
 -- what is known of metrics without what is written
@@ -22,7 +22,7 @@ abbrev pub lost_by : Option Metering → Option ℕ
 lost_by metrics = option_map (λ (m : Metering). m.lost) metrics
 
 -- The seconds since a gateway began with these counts. They never fell since then; if they had, nothing would be measured.
-abbrev pub seconds_of : Counts → State → Served → Tally → Option ℕ
+abbrev pub seconds_of : Counts → State → Served → DropTally → Option ℕ
 seconds_of start w s tally = if has_gone_on start w s then Some (report_of start w s tally).seconds else None
 
 -- what is done at a tick about metrics, if they are put
@@ -37,5 +37,5 @@ MetersLast (Some before) (Some seconds) (Some after) = IsTriedAt before seconds 
 MetersLast (Some before) (Some seconds) None = ⊥
 MetersLast before _ after = after ≡ before
 
-abbrev pub meters_by : Counts → State → Served → Tally → (before after : Option Metering) → Type 0
+abbrev pub meters_by : Counts → State → Served → DropTally → (before after : Option Metering) → Type 0
 meters_by start w s tally before after = MetersDue before (seconds_of start w s tally) after

@@ -3,7 +3,7 @@ use Rattle.std.specs.Prelude.{◌≡◌, ℕ, ◌+◌, ◌-◌, ◌^◌, min, if
 use Rattle.gw_core.specs.State.{State}
 use Rattle.gw_core.specs.declared.event.Counts as gateway
 use Rattle.gw_notices.specs.metrics.Text.{metrics_text}
-use Rattle.gw_notices.specs.declared.metrics.counts.Counts.{Counts}
+use Rattle.gw_notices.specs.declared.metrics.counts.GatewayCounts.{GatewayCounts}
 use Rattle.gw_notices.specs.declared.metrics.counts.Drops.{Drops}
 use Rattle.gw_notices.specs.declared.metrics.counts.PortCounts.{PortCounts}
 use Rattle.gw_notices.specs.declared.metrics.counts.Reloads.{Reloads}
@@ -16,14 +16,14 @@ use Rattle.gw_turns.specs.Reports.{has_gone_on, report_of}
 use Rattle.gw_turns.specs.declared.announcing.Announcing.{Announcing}
 use Rattle.gw_turns.specs.declared.report.Report.{Report}
 use Rattle.gw_turns.specs.declared.serving.Served.{Served}
-use Rattle.gw_turns.specs.declared.tally.Tally.{Tally}
+use Rattle.gw_turns.specs.declared.tally.DropTally.{DropTally}
 use Rattle.gw_notices.specs.declared.losses.Losses.{Losses}
 use Rattle.gw_service.specs.declared.metrics.Measures.{Measures}
 use Rattle.gw_notices.specs.declared.reload.ReloadCounts.{ReloadCounts}
 
 -- What is measured of a run whose gateway began with these counts and is in this state, when so much was done. The counts never
 -- fell since then; if they had, nothing would be.
-abbrev pub measures_of : gateway.Counts → State → Served → Tally → ReloadCounts → Announcing → Losses → Option StateTries
+abbrev pub measures_of : gateway.Counts → State → Served → DropTally → ReloadCounts → Announcing → Losses → Option StateTries
     → Option Measures
 measures_of start w s tally reloads announcing losses tries =
     if has_gone_on start w s
@@ -74,7 +74,7 @@ ports_of r states = counts_from r 0 states
 
 -- What is written of a run: what was measured, how many asks each of these rules decided, what is counted of each port, and how many
 -- texts were lost. What was received was taken, or memory was refused for it.
-pub record AreCounts (m : Measures) (in_force : List Rule) (decided : Option (List ℕ)) (by_port : List PortCounts) (lost : ℕ) (c : Counts)
+pub record AreCounts (m : Measures) (in_force : List Rule) (decided : Option (List ℕ)) (by_port : List PortCounts) (lost : ℕ) (c : GatewayCounts)
     : Type 0 where
   pub ticks : c.ticks ≡ m.report.seconds
   pub received : c.received ≡ min (m.report.datagrams + m.report.memory_drops) (2 ^ 64 - 1)
@@ -103,13 +103,13 @@ pub record AreCounts (m : Measures) (in_force : List Rule) (decided : Option (Li
 -- the text of that is put into the store, if it is due
 abbrev pub PutsInto : {S : Type 0} → (S → Option (List ℕ)) → Writing S → Measures → State → Option (List ℕ) → Writing S → Type 0
 PutsInto held before m w decisions after =
-    (c : Counts) × AreCounts m w.rules decisions (ports_of m.report w.relay.ports) before.lost c
+    (c : GatewayCounts) × AreCounts m w.rules decisions (ports_of m.report w.relay.ports) before.lost c
     × WritesAtTick held before m.report.seconds (metrics_text c) after
 
 -- or whether it is due or not
 abbrev pub PutsNow : {S : Type 0} → (S → Option (List ℕ)) → Writing S → Measures → State → Option (List ℕ) → Writing S → Type 0
 PutsNow held before m w decisions after =
-    (c : Counts) × AreCounts m w.rules decisions (ports_of m.report w.relay.ports) before.lost c
+    (c : GatewayCounts) × AreCounts m w.rules decisions (ports_of m.report w.relay.ports) before.lost c
     × IsTried held before m.report.seconds (metrics_text c) after
 
 abbrev pub PutsLast : {S : Type 0} → (S → Option (List ℕ)) → Option (Writing S) → Option Measures → State → Option (List ℕ)

@@ -15,7 +15,7 @@ use Rattle.gw_service.specs.Stats.{Reporting, all_stats, due_stats, end_stats}
 use Rattle.gw_service.specs.declared.fault.ServiceFault.{ServiceFault}
 use Rattle.gw_service.specs.declared.holding.Holding.{Holding}
 use Rattle.gw_service.specs.declared.keeping.Kept.{Kept}
-use Rattle.gw_service.specs.declared.running.End.{End}
+use Rattle.gw_service.specs.declared.running.RunEnd.{RunEnd}
 
 -- what keeps the state of a gateway, by a store, reports no more of itself
 abbrev pub no_more : {S : Type 0} → Kept S → (rules : Bool) → State → List ℕ
@@ -35,7 +35,7 @@ pub record RunsKept {S Q L : Type 0} (given : Given S Q L) (c : Configuration) (
   pub begins : BeginsAs c given.saved given.line gateway
   pub keeper : Kept S
   pub keeps : KeepsFirst given.held given.store c gateway keeper
-  pub answer : Result End ServeFault
+  pub answer : Result RunEnd ServeFault
   pub left : Rest (Kept S)
   pub runs : RunsFrom (manner_of given.held (reporting_of given how gateway)) (end_stats unkept_in no_more (reporting_of given how gateway))
       (counts_of gateway) how.turns (first_stage given c gateway keeper (troubles_in keeper) before) answer after left text
@@ -52,7 +52,7 @@ pub record HoldsKept {S Q L : Type 0} (given : Given S Q L) (c : Configuration) 
   pub begins : BeginsAs c given.saved given.line gateway
   pub keeper : Kept S
   pub keeps : KeepsFirst given.held given.store c gateway keeper
-  pub answer : Result End ServeFault
+  pub answer : Result RunEnd ServeFault
   pub left : Rest (Holding (Kept S))
   pub runs : RunsFromHolding (holding_manner_of given.held (reporting_of given how gateway))
       (end_stats (λ h. unkept_in h.keeper) (more_holding no_more) (reporting_of given how gateway))

@@ -23,8 +23,8 @@ use Rattle.gw_service.specs.declared.edition.Edition.{Edition}
 use Rattle.gw_service.specs.declared.reload.Adopted.{Adopted}
 use Rattle.gw_notices.specs.Parts.{unless}
 use Rattle.gw_notices.specs.Reload.{reload_line}
-use Rattle.gw_notices.specs.declared.parts.Part.{Part}
-use Rattle.gw_notices.specs.declared.parts.Part.TheVariants as part
+use Rattle.gw_notices.specs.declared.parts.ConfigurationPart.{ConfigurationPart}
+use Rattle.gw_notices.specs.declared.parts.ConfigurationPart.TheVariants as part
 use Rattle.gw_notices.specs.rule_changes.Changes.{same_range, same_truth}
 use Rattle.gw_watchers.specs.files.Trial.{is_same_format}
 use Rattle.gw_notices.specs.declared.reload.ReloadFault.{ReloadFault}
@@ -84,7 +84,7 @@ same_peers saved p = pointwise same_entry saved.peers p.peers
 
 -- The parts in which a configuration differs from that of a gateway in this state, of which this is saved: the format, whether it
 -- announces networks, and the ports' stations, peers and broadcast managers.
-abbrev pub differing : State → Saved → Configuration → List Part
+abbrev pub differing : State → Saved → Configuration → List ConfigurationPart
 differing w s c =
     unless (is_same_format w.relay.format c.format) part.Format
     ++ (unless (same_truth w.relay.announce c.announce) part.Announce

@@ -5,7 +5,7 @@ use Rattle.gw_core.specs.declared.event.Counts.{Counts}
 use Rattle.gw_turns.specs.Reports.{announcing_text, culprits_text, has_gone_on, healths_text, ports_text, report_line, report_of}
 use Rattle.gw_turns.specs.declared.announcing.Announcing.{Announcing}
 use Rattle.gw_turns.specs.declared.serving.Served.{Served}
-use Rattle.gw_turns.specs.declared.tally.Tally.{Tally}
+use Rattle.gw_turns.specs.declared.tally.DropTally.{DropTally}
 use Rattle.gw_notices.specs.Stats.{lost_metrics_text, put_off_text, reloads_text, unkept_text}
 use Rattle.gw_notices.specs.declared.reload.ReloadCounts.{ReloadCounts}
 
@@ -43,12 +43,12 @@ tries_text unkept more how k counts announcing lost w =
 
 -- from whom the last datagrams came that were dropped, and on which ports sends fail or succeed again: in the last so many seconds, or
 -- whenever it was
-abbrev pub troubles_text : Option ℕ → State → Served → Tally → List ℕ
+abbrev pub troubles_text : Option ℕ → State → Served → DropTally → List ℕ
 troubles_text seconds w s tally = culprits_text seconds w.ticks tally ++ healths_text seconds w s
 
 -- a report of what was done since then, and by port; these troubles, in the last so many seconds if reports are asked for; and these
 -- tries
-abbrev pub stats_text : Reporting → State → Served → Tally → (tries : List ℕ) → List ℕ
+abbrev pub stats_text : Reporting → State → Served → DropTally → (tries : List ℕ) → List ℕ
 stats_text how w s tally tries =
     if has_gone_on how.start w s
     then report_line (report_of how.start w s tally) ++ (ports_text (report_of how.start w s tally)
@@ -69,7 +69,7 @@ due_with how w seconds = with_rules how (how.rules || ends_hour how.start w seco
 
 -- a report with how many asks each rule decided, whether one is due or not
 abbrev pub all_stats : {K : Type 0} → (K → ℕ) → (K → (rules : Bool) → State → List ℕ) → Reporting → K → ReloadCounts → Announcing
-    → Option ℕ → State → Served → Tally → List ℕ
+    → Option ℕ → State → Served → DropTally → List ℕ
 all_stats unkept more how k counts announcing lost w s tally =
     stats_text (whole how) w s tally (tries_text unkept more (whole how) k counts announcing lost w)
 
@@ -79,12 +79,12 @@ end_by None text = []
 end_by (Some seconds) text = text
 
 abbrev pub end_stats : {K : Type 0} → (K → ℕ) → (K → (rules : Bool) → State → List ℕ) → Reporting → K → ReloadCounts → Announcing
-    → Option ℕ → State → Served → Tally → List ℕ
+    → Option ℕ → State → Served → DropTally → List ℕ
 end_stats unkept more how k counts announcing lost w s tally =
     end_by how.seconds (all_stats unkept more how k counts announcing lost w s tally)
 
 -- what is said at a tick of a verbose run: the troubles of the last minute, if a full one has passed
-abbrev pub minute_text : Reporting → State → Served → Tally → List ℕ
+abbrev pub minute_text : Reporting → State → Served → DropTally → List ℕ
 minute_text how w s tally = if how.verbose && is_due how.start w 60 then troubles_text (Some 60) w s tally else []
 
 -- what is reported at a tick: something if a multiple of so many seconds has passed; or what is said then, if no reports are asked for
@@ -93,7 +93,7 @@ due_by None start w minute text = minute
 due_by (Some seconds) start w minute text = if is_due start w seconds then text seconds else []
 
 abbrev pub due_stats : {K : Type 0} → (K → ℕ) → (K → (rules : Bool) → State → List ℕ) → Reporting → K → ReloadCounts → Announcing
-    → Option ℕ → State → Served → Tally → List ℕ
+    → Option ℕ → State → Served → DropTally → List ℕ
 due_stats unkept more how k counts announcing lost w s tally =
     due_by how.seconds how.start w (minute_text how w s tally)
     (λ seconds. stats_text how w s tally (tries_text unkept more (due_with how w seconds) k counts announcing lost w))

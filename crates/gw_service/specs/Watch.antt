@@ -5,7 +5,7 @@ use Rattle.std.specs.Option.{option_map_or}
 use Rattle.gw_configuration.specs.declared.run_options.RunOptions.{RunOptions}
 use Rattle.gw_configuration.specs.Configuration.{Configuration}
 use Rattle.gw_core.specs.State.{State}
-use Rattle.gw_core.specs.declared.guard.Both.{Both}
+use Rattle.gw_core.specs.declared.guard.BothGuards.{BothGuards}
 use Rattle.gw_system.specs.Host.{LogOpening}
 use Rattle.gw_system.specs.declared.reading.ReadFailure.{ReadFailure}
 use Rattle.gw_decisions.specs.tally.Tally.{IsTally}
@@ -114,12 +114,12 @@ IsUnwatched FileReads LastDenials LogOpens c names f =
 -- ---- while it runs
 
 -- At a tick what keeps the state does what is due, and what watches stays.
-abbrev pub IsKeptAtTickBeside : {S T A : Type 0} → (S → Option (List ℕ)) → Both (Watching T A) (Kept S) → State → Both (Watching T A) (Kept S)
+abbrev pub IsKeptAtTickBeside : {S T A : Type 0} → (S → Option (List ℕ)) → BothGuards (Watching T A) (Kept S) → State → BothGuards (Watching T A) (Kept S)
     → Type 0
 IsKeptAtTickBeside held k w l = IsKeptAtTick held k.second w l.second × (l.first ≡ k.first)
 
 -- So it is at the end.
-abbrev pub IsKeptLastBeside : {S T A : Type 0} → (S → Option (List ℕ)) → Both (Watching T A) (Kept S) → State → Both (Watching T A) (Kept S)
+abbrev pub IsKeptLastBeside : {S T A : Type 0} → (S → Option (List ℕ)) → BothGuards (Watching T A) (Kept S) → State → BothGuards (Watching T A) (Kept S)
     → Type 0
 IsKeptLastBeside held k w l = IsKeptLast held k.second w l.second × (l.first ≡ k.first)
 
@@ -135,8 +135,8 @@ pub record WatchesOn {T A : Type 0} (c : Configuration) (before after : Watching
   pub goes_on : after ≡ ended_by c.format
       (record before { audit = option_map (with_marks c.audits) before.audit; counts = option_map (λ _. counts) before.counts })
 
-abbrev pub IsKeptForBeside : {S T A : Type 0} → (S → Option (List ℕ)) → Both (Watching T A) (Kept S) → Configuration → State
-    → Both (Watching T A) (Kept S) → Type 0
+abbrev pub IsKeptForBeside : {S T A : Type 0} → (S → Option (List ℕ)) → BothGuards (Watching T A) (Kept S) → Configuration → State
+    → BothGuards (Watching T A) (Kept S) → Type 0
 IsKeptForBeside held k c w l = IsKeptFor held k.second c w l.second × WatchesOn c k.first l.first
 
 -- ---- what is measured
@@ -145,7 +145,7 @@ IsKeptForBeside held k c w l = IsKeptFor held k.second c w l.second × WatchesOn
 abbrev pub lost_of : {C S : Type 0} → Option (Beside C S) → ℕ
 lost_of log = option_map_or (λ (b : Beside _ _). b.lost) log 0
 
-abbrev pub losses_of : {S T A : Type 0} → Both (Watching T A) (Kept S) → Losses
+abbrev pub losses_of : {S T A : Type 0} → BothGuards (Watching T A) (Kept S) → Losses
 losses_of k = record { unwatched = k.first.unseen; trial_lines = lost_of k.first.trial; audit_lines = lost_of k.first.audit }
 
 -- ---- what is reported
@@ -154,7 +154,7 @@ losses_of k = record { unwatched = k.first.unseen; trial_lines = lost_of k.first
 abbrev pub has_lost : {C S : Type 0} → Option (Beside C S) → Bool
 has_lost log = option_map_or (λ (b : Beside _ _). nat_le 1 b.lost) log false
 
-abbrev pub troubles_of : {S T A : Type 0} → Both (Watching T A) (Kept S) → Troubles
+abbrev pub troubles_of : {S T A : Type 0} → BothGuards (Watching T A) (Kept S) → Troubles
 troubles_of k = record {
   state = failing_in k.second;
   trial = has_lost k.first.trial;
@@ -179,7 +179,7 @@ abbrev pub watcher_text : {T A : Type 0} → Watching T A → (rules : Bool) →
 watcher_text watcher rules w = watch_text (counted_of watcher) ++ (if rules then counts_text w.rules watcher.counts else [])
 
 -- is reported, if something was watched
-abbrev pub more_of : {S T A : Type 0} → Both (Watching T A) (Kept S) → (rules : Bool) → State → List ℕ
+abbrev pub more_of : {S T A : Type 0} → BothGuards (Watching T A) (Kept S) → (rules : Bool) → State → List ℕ
 more_of k rules w = if has_watched k.first then watcher_text k.first rules w else []
 
 -- a rule says that it is audited, and no audit is named

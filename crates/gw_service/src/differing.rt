@@ -9,7 +9,7 @@ ghost use Rattle.gw_state.specs.Carried.{same_entry};
 use gw_addr::{BdtEntry, BipAddr};
 use gw_configuration::{Config, Port, Subnet};
 use gw_core::Gateway;
-use gw_notices::{Part, push_unless};
+use gw_notices::{ConfigurationPart, push_unless};
 use gw_relay::PortState;
 use gw_state::{Saved, SavedPort};
 use gw_watchers::files::is_same_format;
@@ -123,7 +123,7 @@ pub(crate) fn differing(
     gateway: &Gateway,
     saved: &Saved,
     config: &Config,
-) -> Result<Vec<Part>, AllocError>
+) -> Result<Vec<ConfigurationPart>, AllocError>
     ensures { IfOk result (λ parts. parts.items ≡ differing gateway.now saved.now config.now) }
 {
     let relay = gateway.relay();
@@ -133,8 +133,8 @@ pub(crate) fn differing(
     let are_ports = have_same_neighbours(relay.ports(), ports)
         && have_same_peers(saved.ports(), ports);
     let mut parts = Vec::new(alloc);
-    push_unless(&mut parts, is_format, Part::Format)?;
-    push_unless(&mut parts, is_announced, Part::Announce)?;
-    push_unless(&mut parts, are_ports, Part::Ports)?;
+    push_unless(&mut parts, is_format, ConfigurationPart::Format)?;
+    push_unless(&mut parts, is_announced, ConfigurationPart::Announce)?;
+    push_unless(&mut parts, are_ports, ConfigurationPart::Ports)?;
     Ok(parts)
 }

@@ -18,7 +18,7 @@ ghost use Rattle.gw_service.specs.Scheduled.{reporting_by};
 
 use crate::holding::Holding;
 use crate::keeping::StateKeeper;
-use crate::running::{End, Running};
+use crate::running::{RunEnd, Running};
 use crate::stats::Schedule;
 use crate::waiting::Waiting;
 use gw_log_words::Notes;
@@ -48,14 +48,14 @@ impl<K: Drop, Q: Drop, M: Store + Drop> Drop for HoldingRun<K, Q, M> {
 }
 
 /// Whether a stretch ended since the log failed.
-fn has_log_failed(ended: Result<Option<End>, ServeFault>) -> bool
+fn has_log_failed(ended: Result<Option<RunEnd>, ServeFault>) -> bool
     ensures { result ≡ has_log_failed ended }
 {
     matches!(ended, Err(ServeFault::Log))
 }
 
 /// Whether serving goes on after a stretch that ended so.
-fn goes_on(ended: Result<Option<End>, ServeFault>) -> bool
+fn goes_on(ended: Result<Option<RunEnd>, ServeFault>) -> bool
     ensures { result ≡ goes_on ended }
 {
     matches!(ended, Ok(None))
@@ -99,7 +99,7 @@ impl<K: StateKeeper, Q: Requests, M: Store + Drop> HoldingRun<K, Q, M> {
         log: &mut L,
         errors: &mut E,
         schedule: &Schedule,
-    ) -> Result<Option<End>, ServeFault>
+    ) -> Result<Option<RunEnd>, ServeFault>
         requires count { CanCount self.old.running.state.served self.old.running.state.tally (W.failure_count wire.old) self.old.running.state.left }
         requires none { self.old.waiting ≡ [] }
         ensures comes { (c : Configuration) → self.old.running.origin ≡ origin_of c →
@@ -113,7 +113,7 @@ impl<K: StateKeeper, Q: Requests, M: Store + Drop> HoldingRun<K, Q, M> {
         ensures rest { CanCount self.new.running.state.served self.new.running.state.tally (W.failure_count wire.new) self.new.running.state.left }
         ensures more { 0 < self.old.running.state.left →
             OnOk result (self.old.running.state.served.turns < self.new.running.state.served.turns) }
-        ensures asking { result ≡ Ok (Some End.Stopped) → IsAsking (Q.recorded self.new.running.requests) }
+        ensures asking { result ≡ Ok (Some RunEnd.Stopped) → IsAsking (Q.recorded self.new.running.requests) }
         ensures lasts { E.NeverFails errors.old → E.NeverFails errors.new }
     {
         let ended = self.running.advance(wire, log, errors, schedule);
@@ -133,7 +133,7 @@ impl<K: StateKeeper, Q: Requests, M: Store + Drop> HoldingRun<K, Q, M> {
         wire: &mut W,
         errors: &mut E,
         schedule: &Schedule,
-    ) -> Result<Option<End>, ServeFault>
+    ) -> Result<Option<RunEnd>, ServeFault>
         requires count { CanCount self.old.running.state.served self.old.running.state.tally (W.failure_count wire.old) self.old.running.state.left }
         requires some { ¬ (self.old.waiting ≡ []) }
         ensures comes { (c : Configuration) → self.old.running.origin ≡ origin_of c → (log : Option (List ℕ)) →
@@ -147,7 +147,7 @@ impl<K: StateKeeper, Q: Requests, M: Store + Drop> HoldingRun<K, Q, M> {
         ensures rest { CanCount self.new.running.state.served self.new.running.state.tally (W.failure_count wire.new) self.new.running.state.left }
         ensures more { 0 < self.old.running.state.left →
             OnOk result (self.old.running.state.served.turns < self.new.running.state.served.turns) }
-        ensures asking { result ≡ Ok (Some End.Stopped) → IsAsking (Q.recorded self.new.running.requests) }
+        ensures asking { result ≡ Ok (Some RunEnd.Stopped) → IsAsking (Q.recorded self.new.running.requests) }
         ensures lasts { E.NeverFails errors.old → E.NeverFails errors.new }
     {
         let waiting = &mut self.waiting;
@@ -185,7 +185,7 @@ impl<K: StateKeeper, Q: Requests, M: Store + Drop> HoldingRun<K, Q, M> {
         log: &mut L,
         errors: &mut E,
         schedule: &Schedule,
-    ) -> Result<Option<End>, ServeFault>
+    ) -> Result<Option<RunEnd>, ServeFault>
         requires count { CanCount self.old.running.state.served self.old.running.state.tally (W.failure_count wire.old) self.old.running.state.left }
         ensures comes { (c : Configuration) → self.old.running.origin ≡ origin_of c →
             let before = hold (stage_of Q.recorded c self.old.running (L.held log.old) (W.calls wire.old)) self.old.waiting in
@@ -198,7 +198,7 @@ impl<K: StateKeeper, Q: Requests, M: Store + Drop> HoldingRun<K, Q, M> {
         ensures rest { CanCount self.new.running.state.served self.new.running.state.tally (W.failure_count wire.new) self.new.running.state.left }
         ensures more { 0 < self.old.running.state.left →
             OnOk result (self.old.running.state.served.turns < self.new.running.state.served.turns) }
-        ensures asking { result ≡ Ok (Some End.Stopped) → IsAsking (Q.recorded self.new.running.requests) }
+        ensures asking { result ≡ Ok (Some RunEnd.Stopped) → IsAsking (Q.recorded self.new.running.requests) }
         ensures lasts { E.NeverFails errors.old → E.NeverFails errors.new }
     {
         if self.waiting.is_empty() {
@@ -221,7 +221,7 @@ impl<K: StateKeeper, Q: Requests, M: Store + Drop> HoldingRun<K, Q, M> {
         log: &mut L,
         errors: &mut E,
         schedule: &Schedule,
-    ) -> Result<End, ServeFault>
+    ) -> Result<RunEnd, ServeFault>
         requires count { CanCount self.old.running.state.served self.old.running.state.tally (W.failure_count wire.old) self.old.running.state.left }
         ensures serves { (c : Configuration) → self.old.running.origin ≡ origin_of c →
             let before = hold (stage_of Q.recorded c self.old.running (L.held log.old) (W.calls wire.old)) self.old.waiting in
@@ -234,7 +234,7 @@ impl<K: StateKeeper, Q: Requests, M: Store + Drop> HoldingRun<K, Q, M> {
     {
         for _ in 0..self.running.state.left {
             if self.running.state.left == 0 {
-                return Ok(End::Turns);
+                return Ok(RunEnd::Turns);
             }
             let ended = self.step(wire, log, errors, schedule)?;
             match ended {
@@ -242,11 +242,11 @@ impl<K: StateKeeper, Q: Requests, M: Store + Drop> HoldingRun<K, Q, M> {
                 None => {}
             }
         }
-        Ok(End::Turns)
+        Ok(RunEnd::Turns)
     }
 
     /// What ends a run that ended so, once what waits was tried to be written once more: the log's fault, if it lacks some of it.
-    fn answer(&self, how: Result<End, ServeFault>) -> Result<End, ServeFault>
+    fn answer(&self, how: Result<RunEnd, ServeFault>) -> Result<RunEnd, ServeFault>
         ensures { result ≡ answer_holding self.now.waiting how }
     {
         if self.waiting.is_empty() {
@@ -269,7 +269,7 @@ impl<K: StateKeeper, Q: Requests, M: Store + Drop> HoldingRun<K, Q, M> {
         log: &mut L,
         errors: &mut E,
         schedule: &Schedule,
-    ) -> Result<End, ServeFault>
+    ) -> Result<RunEnd, ServeFault>
         requires count { CanCount self.old.running.state.served self.old.running.state.tally (W.failure_count wire.old) self.old.running.state.left }
         ensures runs { (c : Configuration) → self.old.running.origin ≡ origin_of c →
             let before = hold (stage_of Q.recorded c self.old.running (L.held log.old) (W.calls wire.old)) self.old.waiting in
@@ -296,7 +296,7 @@ impl<K: StateKeeper, Q: Requests, M: Store + Drop> HoldingRun<K, Q, M> {
         log: &mut L,
         errors: &mut E,
         schedule: &Schedule,
-    ) -> Result<End, ServeFault>
+    ) -> Result<RunEnd, ServeFault>
         requires count { CanCount self.old.running.state.served self.old.running.state.tally (W.failure_count wire.old) self.old.running.state.left }
         requires untold { self.old.running.said ≡ no_troubles }
         requires none { self.old.waiting ≡ [] }

@@ -30,13 +30,13 @@ use crate::fault::ServiceFault;
 use crate::keeping::{Kept, StateKeeper};
 use crate::metrics::metrics_in;
 use crate::order::Order;
-use crate::running::{End, Running};
+use crate::running::{RunEnd, Running};
 use crate::serving::{Opening, open};
 use crate::start::{MAX_STATE_OCTETS, begin_after, saved_in, start_text};
 use crate::stats::Schedule;
 use crate::watch::watcher_under;
 use gw_configuration::{Config, RunOptions};
-use gw_core::{Both, Gateway};
+use gw_core::{BothGuards, Gateway};
 use gw_log_words::Notes;
 use gw_notices::{Checksum, ReloadCounts, Troubles, trial_line, warning_of, write_note};
 use gw_policy_text::{MAX_OCTETS, read_config};
@@ -313,7 +313,7 @@ fn kept_in<S: Store + Drop>(
 
 /// What watches a gateway, and then keeps its state: what is recorded of an event is written before its state is kept, so no write is
 /// in force that an audit lacks.
-type WatchedKeeper<S, L> = Both<Watcher<L, L>, Kept<S>>;
+type WatchedKeeper<S, L> = BothGuards<Watcher<L, L>, Kept<S>>;
 
 /// A gateway of this configuration that is about to run for so many turns.
 fn make_running<S: Store + Drop, Q: Requests + Drop, T: OctetSink + Drop>(
@@ -356,7 +356,7 @@ fn make_running<S: Store + Drop, Q: Requests + Drop, T: OctetSink + Drop>(
     Ok(Running {
         gateway,
         origin,
-        keeper: Both {
+        keeper: BothGuards {
             first: watcher,
             second: kept,
         },
@@ -381,15 +381,15 @@ fn outcome_of_stop(failing: Option<StoreFault>) -> Result<(), ServiceFault>
 
 /// The outcome of a run, by the answer of serving, and by why its state isn't kept.
 fn outcome_of(
-    answer: Result<End, ServeFault>,
+    answer: Result<RunEnd, ServeFault>,
     failing: Option<StoreFault>,
 ) -> Result<(), ServiceFault>
     ensures { result ≡ outcome_by answer failing }
 {
     match answer {
-        Ok(End::Turns) => Ok(()),
-        Ok(End::Stopped) => outcome_of_stop(failing),
-        Ok(End::Unsynced) => Err(ServiceFault::Log),
+        Ok(RunEnd::Turns) => Ok(()),
+        Ok(RunEnd::Stopped) => outcome_of_stop(failing),
+        Ok(RunEnd::Unsynced) => Err(ServiceFault::Log),
         Err(fault) => Err(ServiceFault::from(fault)),
     }
 }
@@ -411,7 +411,7 @@ struct Ready<'a, S, Q, L: OctetSink + Drop> {
 
 /// The sockets and the log, if it is in a file, that are open.
 #[derive(Drop)]
-struct Opened<X, L> {
+struct OpenedMachine<X, L> {
     sockets: X,
     log: Option<L>,
 }
@@ -476,7 +476,7 @@ fn run_open<
 >(
     alloc: Global,
     ready: Ready<'_, S, Q, L>,
-    opened: &mut Opened<X, L>,
+    opened: &mut OpenedMachine<X, L>,
     output: &mut BufWriter<W>,
     errors: &mut E,
 ) -> Result<(), ServiceFault>
@@ -494,7 +494,7 @@ fn run_open<
         (writer_contents W.contents output.new) }
     ensures buffer { writer_buffer output.new ≡ writer_buffer output.old }
 {
-    let Opened { sockets, log } = opened;
+    let OpenedMachine { sockets, log } = opened;
     match log {
         Some(log) => run_on(alloc, ready, sockets, log, errors),
         None => {
@@ -563,9 +563,9 @@ pub(crate) fn serve_kept<H: Host, W: Write + Drop, E: OctetSink>(
                 before,
                 options,
             };
-            let mut opened = Opened { sockets, log };
+            let mut opened = OpenedMachine { sockets, log };
             let outcome = run_open(alloc, ready, &mut opened, output, errors);
-            let Opened { sockets, log } = opened;
+            let OpenedMachine { sockets, log } = opened;
             host.close(sockets, log);
             outcome
         }

@@ -5,7 +5,7 @@ ghost use Rattle.gw_core.specs.State.{State};
 ghost use Rattle.gw_core.specs.declared.event.Counts.{Counts};
 ghost use Rattle.gw_turns.specs.declared.announcing.Announcing.{Announcing};
 ghost use Rattle.gw_turns.specs.declared.serving.Served.{Served};
-ghost use Rattle.gw_turns.specs.declared.tally.Tally.{Tally};
+ghost use Rattle.gw_turns.specs.declared.tally.DropTally.{DropTally};
 ghost use Rattle.gw_service.specs.Chain.{manner};
 ghost use Rattle.gw_service.specs.Holding.{ChainsLogFirst, ChainsLoseNothing, StepsLogFirst, StepsLoseNothing, holding_manner};
 ghost use Rattle.gw_service.specs.Stats.{Reporting};
@@ -24,14 +24,14 @@ use gw_wire::Store;
 /// Each event is judged by the rules of the configuration in force: wherever a run leads, the gateway has them, and in a stretch
 /// they stay.
 pub fn rules_are_in_force<K: StateKeeper>()
-    ensures chain { (start : Counts) (report status : K → ReloadCounts → Announcing → Option ℕ → State → Served → Tally → List ℕ) →
+    ensures chain { (start : Counts) (report status : K → ReloadCounts → Announcing → Option ℕ → State → Served → DropTally → List ℕ) →
         RulesAreInForce (manner K.Passes K.Ticks K.Adopts K.troubles report status (meters_by start) K.Lasts) }
     ensures stretch { RulesStay }
 {}
 
 /// The checksum that metrics show is that of the configuration in force: wherever a run leads, it is the one of a text of that.
 pub fn checksum_is_in_force<K: StateKeeper>()
-    ensures { (start : Counts) (report status : K → ReloadCounts → Announcing → Option ℕ → State → Served → Tally → List ℕ) →
+    ensures { (start : Counts) (report status : K → ReloadCounts → Announcing → Option ℕ → State → Served → DropTally → List ℕ) →
         ChecksumIsInForce (manner K.Passes K.Ticks K.Adopts K.troubles report status (meters_by start) K.Lasts) }
 {}
 
@@ -56,7 +56,7 @@ pub fn as_plain<S: Store + Drop, Q: Requests + Drop, L: OctetSink + Drop>()
 
 /// If no request file is named, nobody asks: no look finds a request, and the configuration in force stays to the end.
 pub fn nobody_asks<K: StateKeeper>()
-    ensures { (start : Counts) (report status : K → ReloadCounts → Announcing → Option ℕ → State → Served → Tally → List ℕ) →
+    ensures { (start : Counts) (report status : K → ReloadCounts → Announcing → Option ℕ → State → Served → DropTally → List ℕ) →
         NobodyAsks (manner K.Passes K.Ticks K.Adopts K.troubles report status (meters_by start) K.Lasts) }
 {}
 

@@ -11,7 +11,7 @@ use arrayvec::ArrayVec;
 use gw_addr::MAX_PORTS;
 use gw_core::Gateway;
 use gw_decisions::tally::Tally;
-use gw_notices::metrics::{Counts, Drops, Metrics, PortCounts, Reloads, StateTries};
+use gw_notices::metrics::{Drops, GatewayCounts, Metrics, PortCounts, Reloads, StateTries};
 use gw_notices::{Losses, ReloadCounts};
 use gw_relay::PortState;
 use gw_rules::RuleList;
@@ -96,7 +96,7 @@ fn counts_of<'a>(
     decisions: &'a Option<Tally>,
     ports: &'a [PortCounts],
     lost_metrics: u64,
-) -> Counts<'a>
+) -> GatewayCounts<'a>
     ensures { AreCounts measures.now rules.now decisions.now ports.now lost_metrics result }
 {
     let Measures {
@@ -107,7 +107,7 @@ fn counts_of<'a>(
         losses,
         tries,
     } = *measures;
-    Counts {
+    GatewayCounts {
         ticks: report.seconds,
         received: report.datagrams.saturating_add(report.memory_drops),
         taken: report.datagrams,

@@ -38,7 +38,7 @@ use gw_policy_text::MAX_OCTETS;
 use gw_script::{OctetSink, WriteFailed};
 use gw_state::Origin;
 use gw_system::{ReadFailure, Request, Requests};
-use gw_turns::{Announcing, Pause, ServeFault, ServeState};
+use gw_turns::{Announcing, ServeFault, ServeState, StretchEnd};
 use gw_wire::{Store, Wire};
 use std::alloc::Global;
 
@@ -84,7 +84,7 @@ impl<K: Drop, Q: Drop, M: Store + Drop> Drop for Running<K, Q, M> {
 
 /// How a run ends whose last turn no fault ended.
 #[derive(Clone, Copy)]
-pub enum End {
+pub enum RunEnd {
     /// All turns were served.
     Turns,
     /// It was asked to stop.
@@ -94,17 +94,17 @@ pub enum End {
 }
 
 /// Whether a run was asked to stop, by how it ended.
-fn is_stopped(answer: Result<End, ServeFault>) -> bool
+fn is_stopped(answer: Result<RunEnd, ServeFault>) -> bool
     ensures { result ≡ is_stopped answer }
 {
-    matches!(answer, Ok(End::Stopped))
+    matches!(answer, Ok(RunEnd::Stopped))
 }
 
 /// How a run ends after a tick, if it was asked to stop then.
-fn end_of(stops: bool) -> Option<End>
+fn end_of(stops: bool) -> Option<RunEnd>
     ensures { result ≡ end_of stops }
 {
-    if stops { Some(End::Stopped) } else { None }
+    if stops { Some(RunEnd::Stopped) } else { None }
 }
 
 /// The report that answers a request to say what is counted, or else that there was no memory for it.
@@ -266,7 +266,7 @@ impl<K: StateKeeper, Q: Requests, M: Store + Drop> Running<K, Q, M> {
         log: &mut L,
         errors: &mut E,
         schedule: &Schedule,
-    ) -> Result<Option<End>, ServeFault>
+    ) -> Result<Option<RunEnd>, ServeFault>
         requires count { CanCount self.old.state.served self.old.state.tally (W.failure_count wire.old) self.old.state.left }
         ensures advances { (c : Configuration) → self.old.origin ≡ origin_of c →
             let before = stage c (moment (scene self.old.gateway (L.held log.old) (W.calls wire.old)) self.old.keeper
@@ -283,7 +283,7 @@ impl<K: StateKeeper, Q: Requests, M: Store + Drop> Running<K, Q, M> {
         ensures left { self.new.state.served.turns + self.new.state.left ≡ self.old.state.served.turns + self.old.state.left }
         ensures rest { CanCount self.new.state.served self.new.state.tally (W.failure_count wire.new) self.new.state.left }
         ensures more { 0 < self.old.state.left → self.old.state.served.turns < self.new.state.served.turns }
-        ensures asking { result ≡ Ok (Some End.Stopped) → IsAsking (Q.recorded self.new.requests) }
+        ensures asking { result ≡ Ok (Some RunEnd.Stopped) → IsAsking (Q.recorded self.new.requests) }
         ensures lasts { E.NeverFails errors.old → E.NeverFails errors.new }
     {
         let keeper = &mut self.keeper;
@@ -291,13 +291,13 @@ impl<K: StateKeeper, Q: Requests, M: Store + Drop> Running<K, Q, M> {
             .state
             .serve_to_tick(&mut self.gateway, wire, log, keeper)
         {
-            Ok(Pause::Turns) => Ok(None),
-            Ok(Pause::Tick) => {
+            Ok(StretchEnd::Turns) => Ok(None),
+            Ok(StretchEnd::Tick) => {
                 if wire.is_behind() {
                     return Ok(None);
                 }
                 let Ok(_synced) = log.sync() else {
-                    return Ok(Some(End::Unsynced));
+                    return Ok(Some(RunEnd::Unsynced));
                 };
                 let alloc = self.state.alloc;
                 let stops = self.at_tick(schedule, log, errors);
@@ -316,7 +316,7 @@ impl<K: StateKeeper, Q: Requests, M: Store + Drop> Running<K, Q, M> {
                 report_metrics(was, failing_of(&self.metrics), errors);
                 Ok(end_of(stops))
             }
-            Ok(Pause::Withheld) => {
+            Ok(StretchEnd::Withheld) => {
                 self.said = self.notice(errors);
                 Ok(None)
             }
@@ -338,7 +338,7 @@ impl<K: StateKeeper, Q: Requests, M: Store + Drop> Running<K, Q, M> {
         log: &mut L,
         errors: &mut E,
         schedule: &Schedule,
-    ) -> Result<End, ServeFault>
+    ) -> Result<RunEnd, ServeFault>
         requires count { CanCount self.old.state.served self.old.state.tally (W.failure_count wire.old) self.old.state.left }
         ensures runs { (c : Configuration) → self.old.origin ≡ origin_of c →
             let before = stage c (moment (scene self.old.gateway (L.held log.old) (W.calls wire.old)) self.old.keeper
@@ -355,7 +355,7 @@ impl<K: StateKeeper, Q: Requests, M: Store + Drop> Running<K, Q, M> {
     {
         for _ in 0..self.state.left {
             if self.state.left == 0 {
-                return Ok(End::Turns);
+                return Ok(RunEnd::Turns);
             }
             let ended = self.advance(wire, log, errors, schedule)?;
             match ended {
@@ -363,7 +363,7 @@ impl<K: StateKeeper, Q: Requests, M: Store + Drop> Running<K, Q, M> {
                 None => {}
             }
         }
-        Ok(End::Turns)
+        Ok(RunEnd::Turns)
     }
 
     /// Reports at the end what was done, if the schedule asks for that.
@@ -409,7 +409,7 @@ impl<K: StateKeeper, Q: Requests, M: Store + Drop> Running<K, Q, M> {
     /// due if it was asked to stop.
     pub(crate) fn end<E: OctetSink>(
         &mut self,
-        answer: Result<End, ServeFault>,
+        answer: Result<RunEnd, ServeFault>,
         schedule: &Schedule,
         errors: &mut E,
     )
@@ -445,7 +445,7 @@ impl<K: StateKeeper, Q: Requests, M: Store + Drop> Running<K, Q, M> {
         log: &mut L,
         errors: &mut E,
         schedule: &Schedule,
-    ) -> Result<End, ServeFault>
+    ) -> Result<RunEnd, ServeFault>
         requires count { CanCount self.old.state.served self.old.state.tally (W.failure_count wire.old) self.old.state.left }
         requires untold { self.old.said ≡ no_troubles }
         ensures runs { (c : Configuration) → self.old.origin ≡ origin_of c →

@@ -8,7 +8,7 @@ ghost use Rattle.gw_service.specs.Keeping.{tries_in, unkept_in};
 
 use crate::keeping::{Kept, StateKeeper};
 use crate::successor::Successor;
-use gw_core::{Both, Gateway, Guard};
+use gw_core::{BothGuards, Gateway, Guard};
 use gw_decisions::tally::Tally;
 use gw_notices::metrics::StateTries;
 use gw_notices::{LogCount, Losses, Troubles, WatchCounts, write_counts, write_watched};
@@ -114,7 +114,7 @@ fn begun_anew(so_far: &Option<Tally>, counts: Tally) -> Option<Tally>
 }
 
 impl<S: Store + Drop, T: OctetSink + Drop, A: OctetSink + Drop> StateKeeper
-    for Both<Watcher<T, A>, Kept<S>> {
+    for BothGuards<Watcher<T, A>, Kept<S>> {
     ghost Ticks = { IsKeptAtTickBeside S.held };
 
     ghost Adopts = { IsKeptForBeside S.held };

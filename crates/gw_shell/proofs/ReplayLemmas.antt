@@ -2,7 +2,7 @@
 use Rattle.std.proofs.Common.{◌≡◌, refl, sym, subst, rules, true, false, Bool, ℕ, ◌++◌, List, Result, Ok, Err, Option, Some, None, [], ◌∷◌, length, take, IsSomeAnd, IsErrOf}
 use Rattle.gw_replay.specs.declared.replaying.RunFault.{RunFault}
 use Rattle.gw_replay.specs.declared.replaying.RunFault.TheVariants as run
-use Rattle.gw_replay.specs.Entry.{AreEntries, Entry}
+use Rattle.gw_replay.specs.Entry.{AreEntries, ScriptEntry}
 use Rattle.gw_replay.specs.Replay.{Replays, RunsFront, RunsToLine, RunsWhole, EventText, run_text}
 use Rattle.gw_script.specs.Known.{OnKnown}
 use Rattle.gw_script.specs.Script.{lines_of}
@@ -53,7 +53,7 @@ explained_plays c read held holds (Err run.Memory) flaw replays is = replays
 explained_plays c read held holds (Err run.CountEnd) flaw replays is = replays
 
 -- all the lines are the first lines
-all_are_first : (announces : Bool) (ports : ℕ) (lines : List (List ℕ)) (entries : List Entry) → AreEntries announces ports lines entries
+all_are_first : (announces : Bool) (ports : ℕ) (lines : List (List ℕ)) (entries : List ScriptEntry) → AreEntries announces ports lines entries
     → AreEntries announces ports (take (length entries) lines) entries
 all_are_first announces ports [] [] are = tt
 all_are_first announces ports [] (e ∷ entries) are = absurd are

@@ -7,7 +7,7 @@ ghost use Rattle.gw_state_text.specs.internal.Put.{IsPut};
 use std::alloc::AllocError;
 
 /// A kind of items, each of one line or more.
-pub(crate) trait Lines {
+pub(crate) trait ItemLines {
     type Item;
 
     /// The lines of an item.
@@ -19,7 +19,7 @@ pub(crate) trait Lines {
 }
 
 /// Appends the lines of items.
-pub(crate) fn put_all<L: Lines>(
+pub(crate) fn put_all<L: ItemLines>(
     kind: &L,
     out: &mut Vec<u8>,
     items: &[L::Item],

@@ -16,7 +16,7 @@ ghost use Rattle.gw_state_text.specs.internal.Put.{IsPut};
 
 use crate::block::Block;
 use crate::fault::{FaultKind, Stop};
-use crate::items::Lines;
+use crate::items::ItemLines;
 use crate::value::{put_value, value_in};
 use crate::words::{after_word, long_to, octet_to, parted_at, short_to};
 use gw_addr::{put_decimal, put_octet, put_slice};
@@ -93,7 +93,7 @@ fn put_object(out: &mut Vec<u8>, object: &SavedObject) -> Result<(), AllocError>
 #[derive(Clone, Copy)]
 pub(crate) struct Objects;
 
-impl Lines for Objects {
+impl ItemLines for Objects {
     type Item = SavedObject;
 
     ghost lines = { λ objects object. object_text object };

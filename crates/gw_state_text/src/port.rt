@@ -10,9 +10,9 @@ ghost use Rattle.gw_state_text.specs.Text.{port_text};
 
 use crate::block::{Block, read_all};
 use crate::fault::{FaultKind, Stop};
-use crate::items::{Lines, put_all};
+use crate::items::{ItemLines, put_all};
 use crate::lines::{port_at, put_port};
-use crate::tables::{Devices, Entries};
+use crate::tables::{Devices, EntryLines};
 use gw_addr::{BdtEntry, BipAddr, MAX_PORTS, NetNum, Sequence};
 use gw_configuration::Peers;
 use gw_state::SavedPort;
@@ -42,16 +42,16 @@ fn peers_of(alloc: Global, entries: &[BdtEntry]) -> Result<Peers, AllocError>
 
 /// Ports with their tables.
 #[derive(Clone, Copy)]
-pub(crate) struct Ports;
+pub(crate) struct PortLines;
 
-impl Lines for Ports {
+impl ItemLines for PortLines {
     type Item = SavedPort;
 
     ghost lines = { λ ports port. port_text port };
 
     fn put(&self, out: &mut Vec<u8>, item: &SavedPort) -> Result<(), AllocError> {
-        let peers = Entries { word: b"peer " };
-        let entries = Entries { word: b"entry " };
+        let peers = EntryLines { word: b"peer " };
+        let entries = EntryLines { word: b"entry " };
         put_port(out, item.network, item.address)?;
         put_all(&peers, out, item.peers.as_slice())?;
         put_all(&entries, out, item.entries.entries())?;
@@ -59,7 +59,7 @@ impl Lines for Ports {
     }
 }
 
-impl Block for Ports {
+impl Block for PortLines {
     type Item = SavedPort;
 
     ghost line = { λ ports port. port_text port };
@@ -94,8 +94,8 @@ impl Block for Ports {
         if has_port(before, network, address) {
             return Err(Stop::at(text, FaultKind::Twice));
         }
-        let peer_lines = Entries { word: b"peer " };
-        let entry_lines = Entries { word: b"entry " };
+        let peer_lines = EntryLines { word: b"peer " };
+        let entry_lines = EntryLines { word: b"entry " };
         let (peers, lines) = match read_all(alloc, &peer_lines, lines) {
             Ok(read) => read,
             Err(stop) => return Err(stop),

@@ -13,8 +13,8 @@ use crate::block::read_all;
 use crate::fault::{FaultKind, StateFault, Stop};
 use crate::lines::{are_countable, counts_at};
 use crate::object::Objects;
-use crate::port::Ports;
-use crate::tables::Routes;
+use crate::port::PortLines;
+use crate::tables::RouteLines;
 use crate::words::after_word;
 use gw_state::{Saved, SavedFault};
 use std::alloc::Global;
@@ -106,11 +106,11 @@ fn state_at(alloc: Global, text: &[u8]) -> Result<Saved, Stop>
     if !are_countable(counts) {
         return Err(Stop::at(lines, FaultKind::Range));
     }
-    let (ports, lines_of_routes) = match read_all(alloc, &Ports, lines_of_ports) {
+    let (ports, lines_of_routes) = match read_all(alloc, &PortLines, lines_of_ports) {
         Ok(read) => read,
         Err(stop) => return Err(stop),
     };
-    let routes_of = Routes { ports: ports.len() };
+    let routes_of = RouteLines { ports: ports.len() };
     let (routes, lines_of_objects) = match read_all(alloc, &routes_of, lines_of_routes) {
         Ok(read) => read,
         Err(stop) => return Err(stop),

@@ -10,7 +10,7 @@ ghost use Rattle.gw_state_text.specs.Text.{device_line, entry_line, route_line};
 
 use crate::block::Block;
 use crate::fault::{FaultKind, Stop};
-use crate::items::Lines;
+use crate::items::ItemLines;
 use crate::lines::{device_at, entry_at, put_device, put_entry, put_route, route_at};
 use gw_addr::{BdtEntry, BipAddr, NetNum};
 use gw_tables::bdt_fdt::{KeptDevice, MAX_ENTRIES, MAX_REGISTRATIONS};
@@ -40,12 +40,12 @@ fn has_route(routes: &[(NetNum, Route)], network: NetNum) -> bool
 
 /// Entries of a table, whose lines begin with this word.
 #[derive(Clone, Copy)]
-pub(crate) struct Entries {
+pub(crate) struct EntryLines {
     /// The word, and its space.
     pub word: &'static [u8],
 }
 
-impl Lines for Entries {
+impl ItemLines for EntryLines {
     type Item = BdtEntry;
 
     ghost lines = { λ kind item. entry_line kind.word.now item };
@@ -55,7 +55,7 @@ impl Lines for Entries {
     }
 }
 
-impl Block for Entries {
+impl Block for EntryLines {
     type Item = BdtEntry;
 
     ghost line = { λ entries entry. entry_line entries.word.now entry };
@@ -97,7 +97,7 @@ impl Block for Entries {
 #[derive(Clone, Copy)]
 pub(crate) struct Devices;
 
-impl Lines for Devices {
+impl ItemLines for Devices {
     type Item = KeptDevice;
 
     ghost lines = { λ kind item. device_line item };
@@ -150,12 +150,12 @@ impl Block for Devices {
 
 /// Learned routes by one of so many ports.
 #[derive(Clone, Copy)]
-pub(crate) struct Routes {
+pub(crate) struct RouteLines {
     /// How many ports there are.
     pub ports: usize,
 }
 
-impl Lines for Routes {
+impl ItemLines for RouteLines {
     type Item = (NetNum, Route);
 
     ghost lines = { λ kind item. route_line item };
@@ -166,7 +166,7 @@ impl Lines for Routes {
     }
 }
 
-impl Block for Routes {
+impl Block for RouteLines {
     type Item = (NetNum, Route);
 
     ghost line = { λ routes route. route_line route };

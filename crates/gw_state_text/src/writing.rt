@@ -7,8 +7,8 @@ ghost use Rattle.gw_state_text.specs.internal.Put.{IsPut};
 use crate::items::put_all;
 use crate::lines::put_counts;
 use crate::object::Objects;
-use crate::port::Ports;
-use crate::tables::Routes;
+use crate::port::PortLines;
+use crate::tables::RouteLines;
 use gw_addr::put_slice;
 use gw_state::Saved;
 use std::alloc::AllocError;
@@ -19,8 +19,8 @@ fn put_text(out: &mut Vec<u8>, saved: &Saved) -> Result<(), AllocError>
 {
     put_slice(out, b"bacgw state 1\n")?;
     put_counts(out, saved.counts())?;
-    put_all(&Ports, out, saved.ports())?;
-    let routes = Routes {
+    put_all(&PortLines, out, saved.ports())?;
+    let routes = RouteLines {
         ports: saved.ports().len(),
     };
     put_all(&routes, out, saved.routes())?;

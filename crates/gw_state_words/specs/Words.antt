@@ -14,10 +14,10 @@ use Rattle.gw_state.specs.Saved.{Saved}
 use Rattle.gw_state.specs.declared.counts.SavedCounts.{SavedCounts}
 use Rattle.gw_state_words.specs.declared.takeover.finding.Absence.{Absence}
 use Rattle.gw_state_words.specs.declared.takeover.finding.Absence.TheVariants.{NotConfigured, Twice}
-use Rattle.gw_state_words.specs.declared.takeover.finding.Finding.{Finding}
-use Rattle.gw_state_words.specs.declared.takeover.finding.Finding.TheVariants.{Port, NewPort, LostPort, Route, Value, NewObject, LostObject}
-use Rattle.gw_state_words.specs.declared.takeover.finding.Held.{Held}
-use Rattle.gw_state_words.specs.declared.takeover.finding.Held.TheVariants.{Slot, Default}
+use Rattle.gw_state_words.specs.declared.takeover.finding.TakeoverFinding.{TakeoverFinding}
+use Rattle.gw_state_words.specs.declared.takeover.finding.TakeoverFinding.TheVariants.{Port, NewPort, LostPort, Route, Value, NewObject, LostObject}
+use Rattle.gw_state_words.specs.declared.takeover.finding.HeldPlace.{HeldPlace}
+use Rattle.gw_state_words.specs.declared.takeover.finding.HeldPlace.TheVariants.{Slot, Default}
 use Rattle.gw_state_words.specs.declared.takeover.finding.Loss.{Loss}
 use Rattle.gw_state_words.specs.declared.takeover.finding.Loss.TheVariants as losses
 use Rattle.gw_state_words.specs.declared.takeover.finding.ObjectName.{ObjectName}
@@ -160,7 +160,7 @@ ending_words values.OtherDefault = codes ": dropped"
 abbrev pub verdict_words : ValueFate → List ℕ
 verdict_words fate = reason_words fate ++ ending_words fate
 
-abbrev pub held_words : Held → List ℕ
+abbrev pub held_words : HeldPlace → List ℕ
 held_words (Slot priority) = codes ", priority " ++ decimal priority ++ codes ": "
 held_words Default = codes ", default: "
 
@@ -192,7 +192,7 @@ abbrev pub lost_object_words : ObjectName → ℕ → Bool → Absence → List 
 lost_object_words object slots default absence =
     object_words object ++ codes ": " ++ absence_words absence ++ codes ": " ++ slots_words slots default
 
-abbrev pub finding_words : Finding → List ℕ
+abbrev pub finding_words : TakeoverFinding → List ℕ
 finding_words (Port number port sizes table) = port_line_words number port sizes table
 finding_words (NewPort number port) = numbered_words number port ++ new_words
 finding_words (LostPort port sizes absence) = lost_port_words port sizes absence
@@ -201,7 +201,7 @@ finding_words (Value value) = written_words value
 finding_words (NewObject object) = object_words object ++ new_words
 finding_words (LostObject object slots default absence) = lost_object_words object slots default absence
 
-abbrev pub line : Finding → List ℕ
+abbrev pub line : TakeoverFinding → List ℕ
 line finding = finding_words finding ++ codes "\n"
 
 abbrev pub counts_line : SavedCounts → List ℕ
@@ -215,7 +215,7 @@ state_words c s = counts_line s.counts ++ flat_map line (findings c s)
 
 -- ---- what is dropped
 
-abbrev pub dropped_line : Finding → List ℕ
+abbrev pub dropped_line : TakeoverFinding → List ℕ
 dropped_line finding = if is_some (loss_of finding) then codes "state: " ++ line finding else []
 
 abbrev pub dropped_words : Configuration → Saved → List ℕ
@@ -233,7 +233,7 @@ same_loss losses.Slot losses.Slot = true
 same_loss losses.Default losses.Default = true
 same_loss _ _ = false
 
-abbrev pub is_loss : Loss → Finding → Bool
+abbrev pub is_loss : Loss → TakeoverFinding → Bool
 is_loss loss finding = option_map_or (same_loss loss) (loss_of finding) false
 
 abbrev pub one_word : Loss → List ℕ
@@ -254,7 +254,7 @@ many_word losses.Object = codes " objects"
 many_word losses.Slot = codes " slots"
 many_word losses.Default = codes " defaults"
 
-abbrev pub short_held_words : Held → List ℕ
+abbrev pub short_held_words : HeldPlace → List ℕ
 short_held_words (Slot priority) = codes " at " ++ decimal priority ++ codes ": "
 short_held_words Default = codes ", default: "
 
@@ -268,7 +268,7 @@ table_reason_words tables.OtherManager = other_manager_words
 table_reason_words _ = codes "other peers are configured"
 
 -- what is dropped, in short, with its reason
-abbrev pub short_words : Finding → List ℕ
+abbrev pub short_words : TakeoverFinding → List ℕ
 short_words (Port number port sizes table) =
     numbered_words number port ++ codes ": " ++ table_reason_words table
 short_words (LostPort port sizes absence) = port_words port ++ codes ": " ++ absence_words absence
@@ -280,7 +280,7 @@ short_words (NewPort number port) = []
 short_words (NewObject object) = []
 
 -- how many things of a kind are dropped, and the first of them
-abbrev pub loss_words : List Finding → Loss → List ℕ
+abbrev pub loss_words : List TakeoverFinding → Loss → List ℕ
 loss_words findings loss =
     option_map_or
     (λ first.

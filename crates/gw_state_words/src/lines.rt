@@ -3,8 +3,8 @@ ghost use Rattle.std.specs.Prelude.{◌≡◌, ◌++◌, codes, OnOk};
 ghost use Rattle.gw_state_words.specs.Words.{beside_words, by_words, default_words, ending_words, finding_words, held_words, line, lost_object_words, lost_port_words, new_words, other_words, port_line_words, reason_words, refusal_words, route_words, slots_words, table_reason_words, table_words, taken_over_words, unmanaged_words, verdict_words, way_words, written_words};
 
 use crate::takeover::{
-    Absence, Finding, Held, ObjectName, PortName, RouteFate, RouteFinding, Sizes, TableFate,
-    ValueFate, ValueFinding,
+    Absence, HeldPlace, ObjectName, PortName, RouteFate, RouteFinding, Sizes, TableFate,
+    TakeoverFinding, ValueFate, ValueFinding,
 };
 use crate::words::{
     put_absence, put_counted, put_devices, put_numbered, put_object, put_peers, put_port,
@@ -14,39 +14,39 @@ use gw_addr::put_decimal;
 use std::alloc::AllocError;
 
 /// Appends the line of what is found of a part.
-pub(crate) fn put_line(out: &mut Vec<u8>, finding: &Finding) -> Result<(), AllocError>
+pub(crate) fn put_line(out: &mut Vec<u8>, finding: &TakeoverFinding) -> Result<(), AllocError>
     ensures { OnOk result (out.new.items ≡ out.old.items ++ line finding.now) }
 {
     put_finding(out, finding)?;
     out.extend_from_slice(b"\n")
 }
 
-fn put_finding(out: &mut Vec<u8>, finding: &Finding) -> Result<(), AllocError>
+fn put_finding(out: &mut Vec<u8>, finding: &TakeoverFinding) -> Result<(), AllocError>
     ensures { OnOk result (out.new.items ≡ out.old.items ++ finding_words finding.now) }
 {
     match finding {
-        Finding::Port {
+        TakeoverFinding::Port {
             number,
             port,
             sizes,
             table,
         } => put_kept_port(out, *number, *port, *sizes, *table),
-        Finding::NewPort { number, port } => {
+        TakeoverFinding::NewPort { number, port } => {
             put_numbered(out, *number, *port)?;
             put_new(out)
         }
-        Finding::LostPort {
+        TakeoverFinding::LostPort {
             port,
             sizes,
             absence,
         } => put_lost_port(out, *port, *sizes, *absence),
-        Finding::Route(route) => put_route(out, *route),
-        Finding::Value(value) => put_written(out, value),
-        Finding::NewObject(object) => {
+        TakeoverFinding::Route(route) => put_route(out, *route),
+        TakeoverFinding::Value(value) => put_written(out, value),
+        TakeoverFinding::NewObject(object) => {
             put_object(out, *object)?;
             put_new(out)
         }
-        Finding::LostObject {
+        TakeoverFinding::LostObject {
             object,
             slots,
             default,
@@ -172,7 +172,7 @@ fn put_lost_port(
 // ---- routes
 
 fn put_route(out: &mut Vec<u8>, route: RouteFinding) -> Result<(), AllocError>
-    ensures { OnOk result (out.new.items ≡ out.old.items ++ finding_words (Finding.Route route)) }
+    ensures { OnOk result (out.new.items ≡ out.old.items ++ finding_words (TakeoverFinding.Route route)) }
 {
     out.extend_from_slice(b"route to ")?;
     put_way(out, route)?;
@@ -238,16 +238,16 @@ fn put_written(out: &mut Vec<u8>, value: &ValueFinding) -> Result<(), AllocError
     put_verdict(out, value.fate)
 }
 
-fn put_held(out: &mut Vec<u8>, held: Held) -> Result<(), AllocError>
+fn put_held(out: &mut Vec<u8>, held: HeldPlace) -> Result<(), AllocError>
     ensures { OnOk result (out.new.items ≡ out.old.items ++ held_words held) }
 {
     match held {
-        Held::Slot(priority) => {
+        HeldPlace::Slot(priority) => {
             out.extend_from_slice(b", priority ")?;
             put_decimal(out, priority)?;
             out.extend_from_slice(b": ")
         }
-        Held::Default => out.extend_from_slice(b", default: "),
+        HeldPlace::Default => out.extend_from_slice(b", default: "),
     }
 }
 

@@ -4,7 +4,7 @@ ghost use Rattle.std.specs.List.{flat_map};
 ghost use Rattle.gw_state_words.specs.Words.{counts_line, dropped_line, dropped_words, line, state_words};
 
 use crate::lines::put_line;
-use crate::takeover::{Finding, take_over};
+use crate::takeover::{TakeoverFinding, take_over};
 use crate::words::put_counted;
 use gw_addr::{keep_whole, put_slice};
 use gw_configuration::Config;
@@ -64,7 +64,7 @@ fn put_counts(out: &mut Vec<u8>, counts: SavedCounts) -> Result<(), AllocError>
     out.extend_from_slice(b"\n")
 }
 
-fn put_lines(out: &mut Vec<u8>, findings: &[Finding]) -> Result<(), AllocError>
+fn put_lines(out: &mut Vec<u8>, findings: &[TakeoverFinding]) -> Result<(), AllocError>
     ensures { OnOk result (out.new.items ≡ out.old.items ++ flat_map line findings.now) }
 {
     for finding in findings {
@@ -95,7 +95,7 @@ fn dropped_text(alloc: Global, config: &Config, saved: &Saved) -> Result<Vec<u8>
     Ok(text)
 }
 
-fn put_dropped_lines(out: &mut Vec<u8>, findings: &[Finding]) -> Result<(), AllocError>
+fn put_dropped_lines(out: &mut Vec<u8>, findings: &[TakeoverFinding]) -> Result<(), AllocError>
     ensures { OnOk result (out.new.items ≡ out.old.items ++ flat_map dropped_line findings.now) }
 {
     for finding in findings {
@@ -104,7 +104,7 @@ fn put_dropped_lines(out: &mut Vec<u8>, findings: &[Finding]) -> Result<(), Allo
     Ok(())
 }
 
-fn put_dropped_line(out: &mut Vec<u8>, finding: &Finding) -> Result<(), AllocError>
+fn put_dropped_line(out: &mut Vec<u8>, finding: &TakeoverFinding) -> Result<(), AllocError>
     ensures { OnOk result (out.new.items ≡ out.old.items ++ dropped_line finding.now) }
 {
     if finding.loss().is_none() {

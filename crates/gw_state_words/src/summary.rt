@@ -4,7 +4,7 @@ ghost use Rattle.std.specs.List.{flat_map};
 ghost use Rattle.gw_state_words.specs.Words.{is_loss, kept_words, kinds, loss_words, many_word, one_word, short_held_words, short_value_words, short_words, take_over_words};
 
 use crate::lines::{put_reason, put_refusal, put_table_reason};
-use crate::takeover::{Finding, Held, Loss, RouteFinding, TakeOver, ValueFinding};
+use crate::takeover::{HeldPlace, Loss, RouteFinding, TakeOver, TakeoverFinding, ValueFinding};
 use crate::words::{
     put_absence, put_counted, put_devices, put_identifier, put_numbered, put_port, put_value,
 };
@@ -58,7 +58,11 @@ fn put_kept(out: &mut Vec<u8>, taken: &TakeOver) -> Result<(), AllocError>
     out.extend_from_slice(b" kept")
 }
 
-fn put_losses(out: &mut Vec<u8>, findings: &[Finding], losses: &[Loss]) -> Result<(), AllocError>
+fn put_losses(
+    out: &mut Vec<u8>,
+    findings: &[TakeoverFinding],
+    losses: &[Loss],
+) -> Result<(), AllocError>
     ensures { OnOk result (out.new.items ≡
         out.old.items ++ flat_map (loss_words findings.now) losses.now) }
 {
@@ -68,7 +72,7 @@ fn put_losses(out: &mut Vec<u8>, findings: &[Finding], losses: &[Loss]) -> Resul
     Ok(())
 }
 
-fn put_loss(out: &mut Vec<u8>, findings: &[Finding], loss: Loss) -> Result<(), AllocError>
+fn put_loss(out: &mut Vec<u8>, findings: &[TakeoverFinding], loss: Loss) -> Result<(), AllocError>
     ensures { OnOk result (out.new.items ≡ out.old.items ++ loss_words findings.now loss) }
 {
     let Some(first) = first_loss(findings, loss) else {
@@ -85,7 +89,7 @@ fn put_loss(out: &mut Vec<u8>, findings: &[Finding], loss: Loss) -> Result<(), A
     put_short(out, first)
 }
 
-fn is_loss(loss: Loss, finding: &Finding) -> bool
+fn is_loss(loss: Loss, finding: &TakeoverFinding) -> bool
     ensures { result ≡ is_loss loss finding.now }
 {
     match finding.loss() {
@@ -94,13 +98,13 @@ fn is_loss(loss: Loss, finding: &Finding) -> bool
     }
 }
 
-fn first_loss(findings: &[Finding], loss: Loss) -> Option<&Finding>
+fn first_loss(findings: &[TakeoverFinding], loss: Loss) -> Option<&TakeoverFinding>
     ensures { option_copied result ≡ find (is_loss loss) findings.now }
 {
     findings.iter().find(|finding| is_loss(loss, finding))
 }
 
-fn count_of(findings: &[Finding], loss: Loss) -> usize
+fn count_of(findings: &[TakeoverFinding], loss: Loss) -> usize
     ensures { result ≡ count_by (is_loss loss) findings.now }
 {
     findings
@@ -138,11 +142,11 @@ fn many_word(loss: Loss) -> &'static str
 }
 
 /// Appends what is dropped, in short, and why.
-fn put_short(out: &mut Vec<u8>, finding: &Finding) -> Result<(), AllocError>
+fn put_short(out: &mut Vec<u8>, finding: &TakeoverFinding) -> Result<(), AllocError>
     ensures { OnOk result (out.new.items ≡ out.old.items ++ short_words finding.now) }
 {
     match finding {
-        Finding::Port {
+        TakeoverFinding::Port {
             number,
             port,
             table,
@@ -152,14 +156,14 @@ fn put_short(out: &mut Vec<u8>, finding: &Finding) -> Result<(), AllocError>
             out.extend_from_slice(b": ")?;
             put_table_reason(out, *table)
         }
-        Finding::LostPort { port, absence, .. } => {
+        TakeoverFinding::LostPort { port, absence, .. } => {
             put_port(out, *port)?;
             out.extend_from_slice(b": ")?;
             put_absence(out, *absence)
         }
-        Finding::Route(route) => put_short_route(out, *route),
-        Finding::Value(value) => put_short_value(out, value),
-        Finding::LostObject {
+        TakeoverFinding::Route(route) => put_short_route(out, *route),
+        TakeoverFinding::Value(value) => put_short_value(out, value),
+        TakeoverFinding::LostObject {
             object,
             absence,
             ..
@@ -168,12 +172,12 @@ fn put_short(out: &mut Vec<u8>, finding: &Finding) -> Result<(), AllocError>
             out.extend_from_slice(b": ")?;
             put_absence(out, *absence)
         }
-        Finding::NewPort { .. } | Finding::NewObject(_) => Ok(()),
+        TakeoverFinding::NewPort { .. } | TakeoverFinding::NewObject(_) => Ok(()),
     }
 }
 
 fn put_short_route(out: &mut Vec<u8>, route: RouteFinding) -> Result<(), AllocError>
-    ensures { OnOk result (out.new.items ≡ out.old.items ++ short_words (Finding.Route route)) }
+    ensures { OnOk result (out.new.items ≡ out.old.items ++ short_words (TakeoverFinding.Route route)) }
 {
     out.extend_from_slice(b"to ")?;
     put_decimal(out, route.network)?;
@@ -190,15 +194,15 @@ fn put_short_value(out: &mut Vec<u8>, value: &ValueFinding) -> Result<(), AllocE
     put_reason(out, value.fate)
 }
 
-fn put_short_held(out: &mut Vec<u8>, held: Held) -> Result<(), AllocError>
+fn put_short_held(out: &mut Vec<u8>, held: HeldPlace) -> Result<(), AllocError>
     ensures { OnOk result (out.new.items ≡ out.old.items ++ short_held_words held) }
 {
     match held {
-        Held::Slot(priority) => {
+        HeldPlace::Slot(priority) => {
             out.extend_from_slice(b" at ")?;
             put_decimal(out, priority)?;
             out.extend_from_slice(b": ")
         }
-        Held::Default => out.extend_from_slice(b", default: "),
+        HeldPlace::Default => out.extend_from_slice(b", default: "),
     }
 }

@@ -9,7 +9,7 @@ mod routes;
 mod takeover;
 
 pub use finding::{
-    Absence, Finding, Held, Loss, ObjectName, PortName, RouteFate, RouteFinding, Sizes, TableFate,
-    ValueFate, ValueFinding,
+    Absence, HeldPlace, Loss, ObjectName, PortName, RouteFate, RouteFinding, Sizes, TableFate,
+    TakeoverFinding, ValueFate, ValueFinding,
 };
 pub use takeover::{TakeOver, take_over};

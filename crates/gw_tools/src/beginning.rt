@@ -9,17 +9,17 @@ ghost use Rattle.gw_tools.specs.Beginning.{LeavesBegun, text_of};
 use gw_ending::Fault;
 use gw_ending::reading::print;
 use gw_notices::write_note;
-use gw_policy_drafts::beginning::{BeginFault, Words, begin, wrong_line};
+use gw_policy_drafts::beginning::{BeginFault, SiteInWords, begin, wrong_line};
 use gw_script::OctetSink;
 use gw_tool_line::SiteWords;
 use std::alloc::Global;
 use std::io::{BufWriter, Write};
 
 /// The words, lent.
-fn words_of(site: &SiteWords) -> Words<'_>
+fn words_of(site: &SiteWords) -> SiteInWords<'_>
     ensures { site_text result ≡ text_of site.now }
 {
-    Words {
+    SiteInWords {
         ports: site.ports.as_slice(),
         peers: site.peers.as_slice(),
         routers: site.routers.as_slice(),

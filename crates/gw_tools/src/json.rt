@@ -18,7 +18,7 @@ use gw_ask_sets::regions::MAX_STEPS;
 use gw_configuration::{Config, ConfigFault};
 use gw_ending::Fault;
 use gw_ending::reading::{configuration_of, do_hold, print, print_judged, print_made};
-use gw_json::{Listing, put_check, put_differences, put_fault, put_results, unheld_line};
+use gw_json::{ResultListing, put_check, put_differences, put_fault, put_results, unheld_line};
 use gw_policy_review::comparison::{
     Comparing, Part, Results, differing_parts, judged_by, put_details, put_part_names,
 };
@@ -162,7 +162,7 @@ fn comparison_lines(
     let differ = differing_parts(alloc, old, new)?;
     let mut text = parts_line(alloc, old, new, &differ)?;
     let results = results_of(alloc, old, new)?;
-    let listing = Listing {
+    let listing = ResultListing {
         old: old.rules().rules(),
         new: new.rules().rules(),
         most,

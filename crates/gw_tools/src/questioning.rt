@@ -9,7 +9,9 @@ use gw_configuration::Config;
 use gw_ending::Fault;
 use gw_ending::reading::{ConfigFiles, configuration_in, print};
 use gw_tool_line::DeedWords;
-use gw_verdicts::questions::{self, Answer, Outcome, Subject, Words, answer_words};
+use gw_verdicts::questions::{
+    self, AnswerKind, QuestionAnswer, QuestionWords, Subject, answer_words,
+};
 use std::alloc::{AllocError, Global};
 use std::io::{BufWriter, Write};
 
@@ -53,10 +55,10 @@ fn subject_of(deed: &DeedWords) -> Subject<'_>
 }
 
 /// The question.
-fn words_of<'a>(asked: &Questioned<'a>) -> Words<'a>
+fn words_of<'a>(asked: &Questioned<'a>) -> QuestionWords<'a>
     ensures { question_text result ≡ asked_text asked.now.from.now (option_map string_bytes asked.now.to.now) asked.now.deed.now }
 {
-    Words {
+    QuestionWords {
         from: asked.from,
         to: text_if(asked.to),
         subject: subject_of(asked.deed),
@@ -64,19 +66,19 @@ fn words_of<'a>(asked: &Questioned<'a>) -> Words<'a>
 }
 
 /// How the program ends after an answer.
-fn outcome_of(outcome: Outcome) -> Result<(), Fault>
+fn outcome_of(outcome: AnswerKind) -> Result<(), Fault>
     ensures { result ≡ outcome_of_answer outcome }
 {
     match outcome {
-        Outcome::Yes => Ok(()),
-        Outcome::No => Err(Fault::NotAllowed),
-        Outcome::Unasked => Err(Fault::CommandLine),
+        AnswerKind::Yes => Ok(()),
+        AnswerKind::No => Err(Fault::NotAllowed),
+        AnswerKind::Unasked => Err(Fault::CommandLine),
     }
 }
 
 /// Prints an answer, if memory wasn't refused for it.
 fn print_answer<W: Write + Drop>(
-    answer: Result<Answer, AllocError>,
+    answer: Result<QuestionAnswer, AllocError>,
     output: &mut BufWriter<W>,
 ) -> Result<(), Fault>
     ensures output { LeavesAnswerOf answer (writer_contents W.contents output.old)

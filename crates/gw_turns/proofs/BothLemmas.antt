@@ -8,11 +8,11 @@ use Rattle.gw_turns.specs.Both.{GoOnUnderFirst, GoOnUnderSecond, IsUnderFirst, I
 use Rattle.gw_core.specs.Guard.{LetsAllGo, PassesBoth}
 use Rattle.gw_turns.specs.Serve.{Turn, empty_turn, failed_turn, lost_event, taken_event, turn_events}
 use Rattle.gw_turns.specs.Stretch.{AreGuarded, EndsStretch, GoOn, GuardsTurn, IsPassedAt, Moment, moment}
-use Rattle.gw_core.specs.declared.guard.Both.{Both}
+use Rattle.gw_core.specs.declared.guard.BothGuards.{BothGuards}
 use Rattle.gw_turns.specs.declared.serving.ServeFault.{ServeFault}
 use Rattle.gw_turns.specs.declared.serving.ServeFault.TheVariants.{Log, Memory, CountEnd}
-use Rattle.gw_turns.specs.declared.stretch.Pause.{Pause}
-use Rattle.gw_turns.specs.declared.stretch.Pause.TheVariants.{Turns, Tick, Withheld}
+use Rattle.gw_turns.specs.declared.stretch.StretchEnd.{StretchEnd}
+use Rattle.gw_turns.specs.declared.stretch.StretchEnd.TheVariants.{Turns, Tick, Withheld}
 
 first_of : (one two : Bool) → true ≡ (one && two) → one ≡ true
 first_of true two is = refl
@@ -79,7 +79,7 @@ module _ {B K : Type 0} (part : B → K) (Whole : Passing B) (Alone : Passing K)
 
   -- what it withholds is withheld
   under_part : ((g h : B) (w : State) (event : Event) → Whole g w event h false → Alone (part g) w event (part h) false)
-      → (count : ℕ) (before after : Moment B) (answer : Result Pause ServeFault) (unwritten : List ℕ)
+      → (count : ℕ) (before after : Moment B) (answer : Result StretchEnd ServeFault) (unwritten : List ℕ)
       → EndsStretch Whole count before answer unwritten after
       → EndsStretch Alone count (part_moment before) answer unwritten (part_moment after)
   under_part withholds count before after (Ok Turns) unwritten p = record {
@@ -124,13 +124,13 @@ module _ {B K : Type 0} (part : B → K) (Whole : Passing B) (Alone : Passing K)
 
 -- ---- the first of two, and the second
 
-first_is : {G H : Type 0} (First : Passing G) (Second : Passing H) → IsPart (λ (b : Both G H). b.first) (PassesBoth First Second) First
+first_is : {G H : Type 0} (First : Passing G) (Second : Passing H) → IsPart (λ (b : BothGuards G H). b.first) (PassesBoth First Second) First
 first_is First Second = record {
   goes = λ g h w event p. subst (λ (b : Bool). First g.first w event h.first b) (first_of p.0 p.1 p.4) p.2;
   asked = λ g h w event passes p. (p.0, p.2);
 }
 
-second_is : {G H : Type 0} (First : Passing G) (Second : Passing H) → IsPart (λ (b : Both G H). b.second) (PassesBoth First Second) Second
+second_is : {G H : Type 0} (First : Passing G) (Second : Passing H) → IsPart (λ (b : BothGuards G H). b.second) (PassesBoth First Second) Second
 second_is First Second = record {
   goes = λ g h w event p. subst (λ (b : Bool). Second g.second w event h.second b) (second_of p.0 p.1 p.4) p.3;
   asked = λ g h w event passes p. (p.1, p.3);
@@ -143,7 +143,7 @@ pub second_goes : {G H : Type 0} (First : Passing G) (Second : Passing H) → Go
 second_goes First Second = part_goes (λ b. b.second) (PassesBoth First Second) Second (second_is First Second)
 
 -- what the second lets go, the first withholds
-first_withheld : {G H : Type 0} (First : Passing G) (Second : Passing H) → LetsAllGo Second → (g h : Both G H) (w : State) (event : Event)
+first_withheld : {G H : Type 0} (First : Passing G) (Second : Passing H) → LetsAllGo Second → (g h : BothGuards G H) (w : State) (event : Event)
     → PassesBoth First Second g w event h false → First g.first w event h.first false
 first_withheld First Second lets g h w event p = by p.1 refl
   where
@@ -152,7 +152,7 @@ first_withheld First Second lets g h w event p = by p.1 refl
     by false is = absurd (lets g.second h.second w event (subst (λ (b : Bool). Second g.second w event h.second b) is p.3))
 
 -- what the first lets go, the second withholds
-pub second_withheld : {G H : Type 0} (First : Passing G) (Second : Passing H) → LetsAllGo First → (g h : Both G H) (w : State)
+pub second_withheld : {G H : Type 0} (First : Passing G) (Second : Passing H) → LetsAllGo First → (g h : BothGuards G H) (w : State)
     (event : Event) → PassesBoth First Second g w event h false → Second g.second w event h.second false
 second_withheld First Second lets g h w event p = by p.0 refl
   where

@@ -29,7 +29,7 @@ use Rattle.gw_turns.specs.declared.ports.PortSends.{PortSends}
 use Rattle.gw_turns.specs.declared.ports.PortTally.{PortTally}
 use Rattle.gw_turns.specs.declared.serving.Served.{Served}
 use Rattle.gw_turns.specs.declared.tally.Culprit.{Culprit}
-use Rattle.gw_turns.specs.declared.tally.Tally.{Tally}
+use Rattle.gw_turns.specs.declared.tally.DropTally.{DropTally}
 use Rattle.gw_turns.proofs.PaceLemmas.{one_more_of}
 use Rattle.gw_turns.proofs.ReportLemmas.{tally_along}
 use Rattle.gw_turns.proofs.ServeLemmas.{state_along}
@@ -136,10 +136,10 @@ one_received ports c drops places few few_dropped =
     }
 
 -- all that weren't passed on, by the reasons
-abbrev total : Tally → ℕ
+abbrev total : DropTally → ℕ
 total t = t.enter + t.claim + t.malformed + t.own_network + t.no_peer
 
-totals : (t : Tally) (c : Option Culprit) (drop : Option DropReason) (denials : List Denial)
+totals : (t : DropTally) (c : Option Culprit) (drop : Option DropReason) (denials : List Denial)
     → total (tally_with t c drop denials) ≡ total t + drops_of drop denials
 totals t c drop denials = omega arith
 
@@ -166,7 +166,7 @@ tick_drops w =
 -- ---- turns
 
 -- what was counted by port since a gateway began with these counts adds up
-record IsEven (start : Counts) (w : State) (s : Served) (t : Tally) : Type 0 where
+record IsEven (start : Counts) (w : State) (s : Served) (t : DropTally) : Type 0 where
   tally_places : length t.ports ≡ MAX_PORTS
   places : length s.ports ≡ MAX_PORTS
   taken : datagrams_of t.ports + s.ticks ≡ s.taken
@@ -189,7 +189,7 @@ even_none start w begins = record {
 }
 
 -- a turn without an event changes nothing of it
-even_still : (start : Counts) (w : State) (s u : Served) (t : Tally) → IsEven start w s t → u.ports ≡ s.ports → u.ticks ≡ s.ticks → u.taken ≡ s.taken
+even_still : (start : Counts) (w : State) (s u : Served) (t : DropTally) → IsEven start w s t → u.ports ≡ s.ports → u.ticks ≡ s.ticks → u.taken ≡ s.taken
     → u.sends ≡ s.sends → u.send_failures ≡ s.send_failures → IsEven start w u t
 even_still start w s u t p ports ticks taken sends failures = record {
   tally_places = p.tally_places;
@@ -202,7 +202,7 @@ even_still start w s u t p ports ticks taken sends failures = record {
   failures = ap failures_of ports ∙ p.failures ∙ sym failures;
 }
 
-even_turn : (start : Counts) (w : State) (s : Served) (t : Tally) (turn : Turn) → IsEven start w s t → s.taken + 1 < 2 ^ 61
+even_turn : (start : Counts) (w : State) (s : Served) (t : DropTally) (turn : Turn) → IsEven start w s t → s.taken + 1 < 2 ^ 61
     → (count_turn s turn).sends < 2 ^ 64 → (count_turn s turn).send_failures < 2 ^ 64
     → IsEven start (state_from w (turn_events turn)) (count_turn s turn) (tally_from w t (turn_events turn))
 unfolding state_from tally_from tally_at next
@@ -265,7 +265,7 @@ takes_one s failed_turn = omega arith
 takes_one s (lost_event event) = omega arith
 takes_one s (taken_event event tries) = omega arith
 
-even_turns : (start : Counts) (w : State) (s : Served) (t : Tally) (turns : List Turn) → IsEven start w s t → s.taken + length turns < 2 ^ 61
+even_turns : (start : Counts) (w : State) (s : Served) (t : DropTally) (turns : List Turn) → IsEven start w s t → s.taken + length turns < 2 ^ 61
     → (counts_after s turns).sends < 2 ^ 64 → (counts_after s turns).send_failures < 2 ^ 64
     → IsEven start (state_from w (events_of turns)) (counts_after s turns) (tally_from w t (events_of turns))
 unfolding counts_after state_from tally_from
@@ -279,18 +279,18 @@ even_turns start w s t (turn ∷ turns) p few sends failures =
     let rest = even_turns start (state_from w first) s_then (tally_from w t first) turns one (omega (arith, few, takes_one s turn)) sends failures in
     subst (λ (l : List Event). IsEven start (state_from w l) (counts_after s_then turns) (tally_from w t l)) (sym (flat_map-cons turn_events turn turns))
     (subst (λ (v : State). IsEven start v (counts_after s_then turns) (tally_from w t (first ++ later))) (sym (state_along w first later))
-    (subst (λ (k : Tally). IsEven start (state_from (state_from w first) later) (counts_after s_then turns) k) (sym (tally_along w t first later)) rest))
+    (subst (λ (k : DropTally). IsEven start (state_from (state_from w first) later) (counts_after s_then turns) k) (sym (tally_along w t first later)) rest))
 
 pub ports_add_up : {G : Type 0} (Passes : G → State → Event → G → Bool → Type 0) → PortsAddUp Passes
 ports_add_up Passes start before after turns begins nothing untallied went few sends failures =
     let w = before.scene.gateway in
     let served = went.counts ∙ ap (λ (s : Served). counts_after s turns) nothing in
-    let tallied = went.tally ∙ ap (λ (t : Tally). tally_from w t (events_of turns)) untallied in
+    let tallied = went.tally ∙ ap (λ (t : DropTally). tally_from w t (events_of turns)) untallied in
     let all = even_turns start w zero_counts no_tally turns (even_none start w begins) (omega (arith, few))
     (omega (arith, ap (λ (s : Served). s.sends) served, sends)) (omega (arith, ap (λ (s : Served). s.send_failures) served, failures)) in
     let last = subst (λ (v : State). IsEven start v after.served after.tally) (sym went.went.gateway)
     (subst (λ (s : Served). IsEven start (state_from w (events_of turns)) s after.tally) (sym served)
-    (subst (λ (t : Tally). IsEven start (state_from w (events_of turns)) (counts_after zero_counts turns) t) (sym tallied) all)) in
+    (subst (λ (t : DropTally). IsEven start (state_from w (events_of turns)) (counts_after zero_counts turns) t) (sym tallied) all)) in
     record {
       datagrams = omega (arith, last.taken, last.ticks);
       drops = last.drops;

@@ -16,7 +16,7 @@ use Rattle.gw_turns.specs.Tally.{tally_from}
 use Rattle.gw_wire.specs.Wire.{Call}
 use Rattle.gw_turns.specs.declared.serving.ServeFault.{ServeFault}
 use Rattle.gw_turns.specs.declared.serving.Served.{Served}
-use Rattle.gw_turns.specs.declared.tally.Tally.{Tally}
+use Rattle.gw_turns.specs.declared.tally.DropTally.{DropTally}
 use Rattle.gw_turns.proofs.ServeLemmas.{lead_with, single, untallied}
 
 -- ---- one turn of a list
@@ -42,13 +42,13 @@ one_counted : (s t : Served) (turn : Turn) → t ≡ counts_after s (turn ∷ []
 unfolding counts_after
 one_counted s t turn counted = counted
 
-tallied_one : (w : State) (was is : Tally) (turn : Turn) → is ≡ tally_from w was (turn_events turn) → is ≡ tally_from w was (events_of (turn ∷ []))
+tallied_one : (w : State) (was is : DropTally) (turn : Turn) → is ≡ tally_from w was (turn_events turn) → is ≡ tally_from w was (events_of (turn ∷ []))
 tallied_one w was is turn counted = counted ∙ ap (tally_from w was) (sym (single turn_events turn))
 
 -- ---- a turn with a guard
 
 -- no event was taken
-pub guarded_without : {G : Type 0} (Passes : G → State → Event → G → Bool → Type 0) (g : G) (a m : Scene) (s t : Served) (was : Tally)
+pub guarded_without : {G : Type 0} (Passes : G → State → Event → G → Bool → Type 0) (g : G) (a m : Scene) (s t : Served) (was : DropTally)
     (turn : Turn) → turn_events turn ≡ [] → LeadTo a (turn ∷ []) m → t ≡ count_turn s turn
     → (unwritten : List ℕ) → GuardedEnd Passes (moment a g s was) (Ok true) unwritten (moment m g t was)
 guarded_without Passes g a m s t was turn none went counted unwritten = (
@@ -63,7 +63,7 @@ guarded_without Passes g a m s t was turn none went counted unwritten = (
 
 -- one was, and its datagrams were tried
 pub guarded_with : {G : Type 0} (Passes : G → State → Event → G → Bool → Type 0) (g h : G) (a m : Scene) (records : Option (List Call))
-    (s u : Served) (was is : Tally) (n k : ℕ) (event : Event) (taken : Taken) → IsTaken a.gateway event m.gateway taken → IsLoggedLast a event m
+    (s u : Served) (was is : DropTally) (n k : ℕ) (event : Event) (taken : Taken) → IsTaken a.gateway event m.gateway taken → IsLoggedLast a event m
     → is ≡ tally_from a.gateway was (event ∷ []) → Passes g a.gateway event h true
     → AreTried taken.effects.sends m.calls records (record (count_taken s) { ticks = ticks_with s.ticks event }) u n k
     → (unwritten : List ℕ) → GuardedEnd Passes (moment a g s was) (Ok true) unwritten (moment (scene m.gateway m.log records) h u is)
@@ -82,7 +82,7 @@ guarded_with Passes g h a m records s u was is n k event taken was_taken logged 
     )
 
 -- its event ended in a fault
-pub guarded_fault : {G : Type 0} (Passes : G → State → Event → G → Bool → Type 0) (g h : G) (a m : Scene) (s t : Served) (was : Tally)
+pub guarded_fault : {G : Type 0} (Passes : G → State → Event → G → Bool → Type 0) (g h : G) (a m : Scene) (s t : Served) (was : DropTally)
     (fault : ServeFault) (unwritten : List ℕ) (event : Event) → EndsBy fault unwritten a event m
     → IsPassedAt Passes fault g a.gateway event h → t ≡ count_fault s fault
     → GuardedEnd Passes (moment a g s was) (Err fault) unwritten (moment m h t was)
@@ -94,7 +94,7 @@ guarded_fault Passes g h a m s t was fault unwritten event last passed counted =
 -- ---- a turn without a guard
 
 -- a guard that lets all go withholds nothing
-pub unguarded : {G : Type 0} (g h : G) (a m : Scene) (s t : Served) (was is : Tally) (unwritten : List ℕ) (passed : Bool)
+pub unguarded : {G : Type 0} (g h : G) (a m : Scene) (s t : Served) (was is : DropTally) (unwritten : List ℕ) (passed : Bool)
     → GuardedEnd (λ _ _ _ _ passes. passes ≡ true) (moment a g s was) (Ok passed) unwritten (moment m h t is) → TurnEnd a s was m t is (Ok tt)
 unguarded g h a m s t was is unwritten true p =
     let turn = p.0 in
@@ -102,7 +102,7 @@ unguarded g h a m s t was is unwritten true p =
 unguarded g h a m s t was is unwritten false p = absurd (true≢false (sym p.1.passes))
 
 -- nor is a fault another under it
-pub unguarded_fault : {G : Type 0} (Passes : G → State → Event → G → Bool → Type 0) (g h : G) (a m : Scene) (s t : Served) (was is : Tally)
+pub unguarded_fault : {G : Type 0} (Passes : G → State → Event → G → Bool → Type 0) (g h : G) (a m : Scene) (s t : Served) (was is : DropTally)
     (unwritten : List ℕ) (fault : ServeFault)
     → GuardedEnd Passes (moment a g s was) (Err fault) unwritten (moment m h t is) → TurnEnd a s was m t is (Err fault)
 unguarded_fault Passes g h a m s t was is unwritten fault p = (p.0, unwritten, p.1.last, p.1.counts, p.1.tally)

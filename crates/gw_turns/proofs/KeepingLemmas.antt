@@ -8,7 +8,7 @@ use Rattle.gw_core.specs.State.{State}
 use Rattle.gw_turns.specs.Keeping.{AheadIsUnreached, FreshIsSpared, HasAhead, IsAsKept, IsRecent, IsYoung, KeepsChanged, Keeping, KeptBy, RecentIsYoung, TicksBy, TicksKeepAhead, TicksKeepRecent, TicksKeepYoung}
 use Rattle.gw_turns.specs.Keeping.{alike_but_ticks, but_ticks, due_of, far_ahead, is_ahead, is_due, is_fresh, is_kept, number_for, numbered}
 use Rattle.gw_turns.specs.declared.pace.Pace.{Pace}
-use Rattle.gw_turns.specs.declared.alike.Part.TheVariants.{AllButTicks}
+use Rattle.gw_turns.specs.declared.alike.SavedPart.TheVariants.{AllButTicks}
 use Rattle.gw_wire.specs.declared.store.StoreFault.{StoreFault}
 use Rattle.gw_turns.proofs.AlikeLemmas.{alike_but_ticks_is_equal, equal_but_ticks_is_alike}
 

@@ -15,7 +15,7 @@ use Rattle.gw_turns.specs.Logged.{IsLoggedFirst, ServingLogsFirst, StopsLogFirst
 use Rattle.gw_turns.specs.Serve.{EndsBy, LeadTo, Scene, Turn, calls_of, events_of, lines_of, log_of, taken_event}
 use Rattle.gw_turns.specs.declared.serving.ServeFault.{ServeFault}
 use Rattle.gw_turns.specs.declared.serving.ServeFault.TheVariants.{Log, Memory, CountEnd}
-use Rattle.gw_turns.specs.declared.stretch.Pause.TheVariants.{Turns, Tick, Withheld}
+use Rattle.gw_turns.specs.declared.stretch.StretchEnd.TheVariants.{Turns, Tick, Withheld}
 use Rattle.gw_wire.specs.Wire.{Records, arrival}
 
 -- whole turns

@@ -11,7 +11,7 @@ use Rattle.gw_turns.specs.Keeping.{EventsTryFew, FailingIsSpared, KeepsBy, Keeps
 use Rattle.gw_turns.specs.Keeping.{TicksBeginAnew, TicksBy, due_of, is_due, is_kept}
 use Rattle.gw_turns.specs.Pace.{PausesGrow, is_resting, may_try, one_more, paced, pause_after, rested, ticked}
 use Rattle.gw_turns.specs.declared.pace.Pace.{Pace}
-use Rattle.gw_turns.specs.declared.alike.Part.TheVariants.{AllButTicks, Lasting}
+use Rattle.gw_turns.specs.declared.alike.SavedPart.TheVariants.{AllButTicks, Lasting}
 use Rattle.gw_wire.specs.declared.store.StoreFault.{StoreFault}
 
 -- where it may be tried there is no rest, and there were few tries

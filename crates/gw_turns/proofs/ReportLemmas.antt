@@ -4,7 +4,7 @@ use Rattle.std.specs.Prelude.{Result, Ok, Err, OnOk}
 use Rattle.std.specs.Io.KnownBytes.{Appends}
 use Rattle.std.proofs.KnownBytes.{Appends-trans}
 use Rattle.gw_script.specs.Event.{Event}
-use Rattle.gw_turns.specs.declared.tally.Tally.{Tally}
+use Rattle.gw_turns.specs.declared.tally.DropTally.{DropTally}
 use Rattle.gw_core.specs.History.{next, state_from}
 use Rattle.gw_turns.specs.Tally.{tally_at, tally_from}
 use Rattle.gw_core.specs.State.{State}
@@ -16,7 +16,7 @@ behind_one (Ok done) first second third x y p last = Appends-trans first second 
 behind_one (Err e) first second third x y p last = tt
 
 -- a list of events after another one
-pub tally_along : (w : State) (k : Tally) (first later : List Event)
+pub tally_along : (w : State) (k : DropTally) (first later : List Event)
     → tally_from w k (first ++ later) ≡ tally_from (state_from w first) (tally_from w k first) later
 unfolding tally_from state_from
 tally_along w k [] later = refl

@@ -26,7 +26,7 @@ use Rattle.gw_turns.specs.Tally.{tally_from, tally_with}
 use Rattle.gw_core.specs.declared.drops.DropReason.{DropReason}
 use Rattle.gw_turns.specs.declared.ports.PortSends.{PortSends}
 use Rattle.gw_turns.specs.declared.tally.Culprit.{Culprit}
-use Rattle.gw_turns.specs.declared.tally.Tally.{Tally}
+use Rattle.gw_turns.specs.declared.tally.DropTally.{DropTally}
 use Rattle.gw_turns.specs.declared.serving.Served.{Served}
 use Rattle.gw_turns.specs.declared.serving.ServeFault.{ServeFault}
 use Rattle.gw_core.specs.Effects.{effects_at, passes_end}
@@ -328,12 +328,12 @@ ends_at_memory a b event x refused unwritten does ended last = record {
 -- ---- the tally
 
 -- of no event it stays
-pub untallied : (w : State) (k : Tally) → k ≡ tally_from w k []
+pub untallied : (w : State) (k : DropTally) → k ≡ tally_from w k []
 unfolding tally_from
 untallied w k = refl
 
 -- of one that is taken it counts what was reported of it
-pub tallied : (w : State) (k l : Tally) (event : Event) (tick : ℕ) (effects : Effects) (drop : Option DropReason) → tick ≡ w.ticks
+pub tallied : (w : State) (k l : DropTally) (event : Event) (tick : ℕ) (effects : Effects) (drop : Option DropReason) → tick ≡ w.ticks
     → effects ≡ effects_at w event → drop ≡ drop_at w event
     → l ≡ tally_with k (culprit_of tick event) drop effects.denials → l ≡ tally_from w k (event ∷ [])
 unfolding tally_from tally_at
@@ -346,16 +346,16 @@ number_most : (b : Bool) → number_if b ≤ 1
 number_most true = omega arith
 number_most false = omega arith
 
-pub none_below : (n : ℕ) (k : Tally) → k ≡ no_tally → IsBelow n k
+pub none_below : (n : ℕ) (k : DropTally) → k ≡ no_tally → IsBelow n k
 none_below n k none = record {
-  enter = omega (arith, ap (λ (x : Tally). x.enter) none);
-  claim = omega (arith, ap (λ (x : Tally). x.claim) none);
-  malformed = omega (arith, ap (λ (x : Tally). x.malformed) none);
-  own_network = omega (arith, ap (λ (x : Tally). x.own_network) none);
-  no_peer = omega (arith, ap (λ (x : Tally). x.no_peer) none);
+  enter = omega (arith, ap (λ (x : DropTally). x.enter) none);
+  claim = omega (arith, ap (λ (x : DropTally). x.claim) none);
+  malformed = omega (arith, ap (λ (x : DropTally). x.malformed) none);
+  own_network = omega (arith, ap (λ (x : DropTally). x.own_network) none);
+  no_peer = omega (arith, ap (λ (x : DropTally). x.no_peer) none);
 }
 
-pub below_weaker : (n m : ℕ) (k : Tally) → n ≤ m → IsBelow n k → IsBelow m k
+pub below_weaker : (n m : ℕ) (k : DropTally) → n ≤ m → IsBelow n k → IsBelow m k
 below_weaker n m k le below = record {
   enter = omega (arith, le, below.enter);
   claim = omega (arith, le, below.claim);
@@ -365,14 +365,14 @@ below_weaker n m k le below = record {
 }
 
 -- one event more counts at most one of each
-pub below_counted : (n m : ℕ) (k l : Tally) (culprit : Option Culprit) (drop : Option DropReason) (denials : List Denial) → m ≡ n + 1
+pub below_counted : (n m : ℕ) (k l : DropTally) (culprit : Option Culprit) (drop : Option DropReason) (denials : List Denial) → m ≡ n + 1
     → l ≡ tally_with k culprit drop denials → IsBelow n k → IsBelow m l
 below_counted n m k l culprit drop denials more counted below = record {
-  enter = omega (arith, more, ap (λ (x : Tally). x.enter) counted, below.enter, number_most (denies operations.Enter denials));
-  claim = omega (arith, more, ap (λ (x : Tally). x.claim) counted, below.claim, number_most (denies operations.Claim denials));
-  malformed = omega (arith, more, ap (λ (x : Tally). x.malformed) counted, below.malformed, number_most (is_malformed drop));
-  own_network = omega (arith, more, ap (λ (x : Tally). x.own_network) counted, below.own_network, number_most (is_own_network drop));
-  no_peer = omega (arith, more, ap (λ (x : Tally). x.no_peer) counted, below.no_peer, number_most (is_no_peer drop));
+  enter = omega (arith, more, ap (λ (x : DropTally). x.enter) counted, below.enter, number_most (denies operations.Enter denials));
+  claim = omega (arith, more, ap (λ (x : DropTally). x.claim) counted, below.claim, number_most (denies operations.Claim denials));
+  malformed = omega (arith, more, ap (λ (x : DropTally). x.malformed) counted, below.malformed, number_most (is_malformed drop));
+  own_network = omega (arith, more, ap (λ (x : DropTally). x.own_network) counted, below.own_network, number_most (is_own_network drop));
+  no_peer = omega (arith, more, ap (λ (x : DropTally). x.no_peer) counted, below.no_peer, number_most (is_no_peer drop));
 }
 
 -- ---- turn by turn
@@ -383,7 +383,7 @@ unfolding counts_after
 serves_none a = record { turns = []; all = refl; went = lead_nowhere a; counts = refl }
 
 -- one more was done
-pub serves_more : (n : ℕ) (a m b : Scene) (s t : Served) (k l : Tally) → ServesAll n a s m → TurnEnd m s k b t l (Ok tt) → ServesAll (n + 1) a t b
+pub serves_more : (n : ℕ) (a m b : Scene) (s t : Served) (k l : DropTally) → ServesAll n a s m → TurnEnd m s k b t l (Ok tt) → ServesAll (n + 1) a t b
 serves_more n a m b s t k l p ended =
     let turn = ended.0 in
     record {
@@ -394,7 +394,7 @@ serves_more n a m b s t k l p ended =
     }
 
 -- or its event ended in a fault
-pub stops_then : (n count : ℕ) (a m b : Scene) (s t : Served) (k l : Tally) (fault : ServeFault) → ServesAll n a s m → n < count
+pub stops_then : (n count : ℕ) (a m b : Scene) (s t : Served) (k l : DropTally) (fault : ServeFault) → ServesAll n a s m → n < count
     → TurnEnd m s k b t l (Err fault) → Stops count a (record { fault = fault; served = t }) b
 stops_then n count a m b s t k l fault p left ended = record {
   turns = p.turns;

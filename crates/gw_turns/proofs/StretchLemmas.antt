@@ -13,7 +13,7 @@ use Rattle.gw_turns.specs.Stretch.{AreGuarded, EndsAtTick, EndsAtTurns, EndsFaul
 use Rattle.gw_turns.specs.Tally.{tally_from}
 use Rattle.gw_turns.specs.declared.serving.Served.{Served}
 use Rattle.gw_turns.specs.declared.serving.ServeFault.{ServeFault}
-use Rattle.gw_turns.specs.declared.tally.Tally.{Tally}
+use Rattle.gw_turns.specs.declared.tally.DropTally.{DropTally}
 use Rattle.gw_turns.proofs.ReportLemmas.{tally_along}
 use Rattle.gw_turns.proofs.ServeLemmas.{counts_more, lead_along, lead_nowhere, single, state_along}
 
@@ -44,7 +44,7 @@ go_along Passes a m b turns turn p q = record {
   counts = q.counts ∙ ap (λ (s : Served). count_turn s turn) p.counts ∙ sym (counts_more a.served turns turn);
   tally = q.tally
       ∙ ap (λ (v : State). tally_from v m.tally (events_of (turn ∷ []))) p.went.gateway
-      ∙ ap (λ (k : Tally). tally_from (state_from a.scene.gateway (events_of turns)) k (events_of (turn ∷ []))) p.tally
+      ∙ ap (λ (k : DropTally). tally_from (state_from a.scene.gateway (events_of turns)) k (events_of (turn ∷ []))) p.tally
       ∙ sym (tally_along a.scene.gateway a.tally (events_of turns) (events_of (turn ∷ [])))
       ∙ ap (tally_from a.scene.gateway a.tally) (sym (flat_map-append turn_events turns (turn ∷ [])));
 }

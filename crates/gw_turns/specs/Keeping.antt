@@ -18,8 +18,8 @@ use Rattle.gw_core.specs.Resumed.{saved_of}
 use Rattle.gw_core.specs.State.{State}
 use Rattle.gw_turns.specs.Pace.{fresh_pace, is_resting, may_try, one_more, paced, rested, ticked}
 use Rattle.gw_turns.specs.declared.pace.Pace.{Pace}
-use Rattle.gw_turns.specs.declared.alike.Part.{Part}
-use Rattle.gw_turns.specs.declared.alike.Part.TheVariants.{Lasting, AllButTicks}
+use Rattle.gw_turns.specs.declared.alike.SavedPart.{SavedPart}
+use Rattle.gw_turns.specs.declared.alike.SavedPart.TheVariants.{Lasting, AllButTicks}
 use Rattle.gw_turns.specs.declared.alike.TheConstants.{OLDEST_TICKS}
 use Rattle.gw_turns.specs.declared.ahead.TheConstants.{LEAST_AHEAD, MOST_AHEAD}
 use Rattle.gw_wire.specs.Store.{Holds}
@@ -218,12 +218,12 @@ IsTriedLast held k w l = (kept : Bool) × Tries held k (saved_of k.origin w) l k
 -- ---- what is kept only if it differs
 
 -- what of a state that is due is the same as of the one that is kept: what lasts; or all but the ticks, while that is fresh
-abbrev pub is_same : Part → (kept due : Saved) → Bool
+abbrev pub is_same : SavedPart → (kept due : Saved) → Bool
 is_same Lasting kept due = lasts_alike kept due
 is_same AllButTicks kept due = alike_but_ticks kept due && is_fresh kept due
 
 -- this of a state is kept
-abbrev pub is_kept : Part → Result Saved StoreFault → Saved → Bool
+abbrev pub is_kept : SavedPart → Result Saved StoreFault → Saved → Bool
 is_kept part (Ok s) due = is_same part s due
 is_kept part (Err fault) due = false
 
@@ -233,7 +233,7 @@ KeptBy true held k due l = l ≡ k
 KeptBy false held k due l = IsKept held k due l
 
 -- A state is kept if this of it differs from what is kept, by whether it is kept then.
-abbrev pub KeepsChanged : {S : Type 0} → Part → (S → Option (List ℕ)) → Keeping S → Saved → Keeping S → Bool → Type 0
+abbrev pub KeepsChanged : {S : Type 0} → SavedPart → (S → Option (List ℕ)) → Keeping S → Saved → Keeping S → Bool → Type 0
 KeepsChanged part held k due l true = KeptBy (is_kept part k.kept due) held k due l
 KeepsChanged part held k due l false = HasFailed held k due l
 

@@ -11,7 +11,7 @@ use Rattle.gw_turns.specs.Stretch.{EndsStretch, Moment}
 use Rattle.gw_turns.specs.declared.serving.ServeFault.{ServeFault}
 use Rattle.gw_turns.specs.declared.serving.Served.{Served}
 use Rattle.gw_turns.specs.declared.serving.ServeStop.{ServeStop}
-use Rattle.gw_turns.specs.declared.stretch.Pause.{Pause}
+use Rattle.gw_turns.specs.declared.stretch.StretchEnd.{StretchEnd}
 use Rattle.gw_wire.specs.Wire.{Call, Records}
 
 -- From one scene to another the datagrams that were tried to be sent are those of some events, each of them in the state in which
@@ -26,7 +26,7 @@ pub record IsLoggedFirst (before after : Scene) : Type 0 where
 
 -- So it is wherever a stretch ends, also where the log or memory failed it, and where a guard didn't let datagrams go.
 abbrev pub StretchesLogFirst : {G : Type 0} → (G → State → Event → G → Bool → Type 0) → Type 0
-StretchesLogFirst {G} Passes = (count : ℕ) (before after : Moment G) (answer : Result Pause ServeFault) (unwritten : List ℕ) →
+StretchesLogFirst {G} Passes = (count : ℕ) (before after : Moment G) (answer : Result StretchEnd ServeFault) (unwritten : List ℕ) →
     EndsStretch Passes count before answer unwritten after → IsLoggedFirst before.scene after.scene
 
 -- And so it is wherever serving ends.

@@ -13,7 +13,7 @@ use Rattle.gw_turns.specs.declared.ports.Health.TheVariants.{Sound, Failing, Res
 use Rattle.gw_turns.specs.declared.ports.PortSends.{PortSends}
 use Rattle.gw_turns.specs.declared.ports.PortTally.{PortTally}
 use Rattle.gw_turns.specs.declared.tally.Culprit.{Culprit}
-use Rattle.gw_turns.specs.declared.tally.Tally.{Tally}
+use Rattle.gw_turns.specs.declared.tally.DropTally.{DropTally}
 use Rattle.gw_turns.specs.declared.report.Report.{Report}
 use Rattle.gw_turns.specs.declared.serving.Served.{Served}
 
@@ -37,7 +37,7 @@ has_gone_on start w s =
 
 -- What is reported in this state of a gateway that began with these counts, when so much was done. A
 -- second is a tick that was taken, and a datagram any other event that was. The tally is of those that weren't passed on.
-abbrev pub report_of : Counts → State → Served → Tally → Report
+abbrev pub report_of : Counts → State → Served → DropTally → Report
 report_of start w s tally = record {
   seconds = w.ticks - start.ticks;
   datagrams = s.taken - (w.ticks - start.ticks);
@@ -77,17 +77,17 @@ tables_text r =
     ++ field (codes " learned_routes=") r.learned_routes
 
 -- how many datagrams the policy kept out, by the operation that it denied
-abbrev pub refusals_text : Tally → List ℕ
+abbrev pub refusals_text : DropTally → List ℕ
 refusals_text t = field (codes " enter_refusals=") t.enter ++ field (codes " claim_refusals=") t.claim
 
 -- how many datagrams were dropped before it was asked, by the reason
-abbrev pub drops_text : Tally → List ℕ
+abbrev pub drops_text : DropTally → List ℕ
 drops_text t =
     field (codes " malformed=") t.malformed ++ field (codes " own_network=") t.own_network
     ++ field (codes " no_peer=") t.no_peer
 
 -- how many weren't passed on, and a line feed
-abbrev pub tally_text : Tally → List ℕ
+abbrev pub tally_text : DropTally → List ℕ
 tally_text t = refusals_text t ++ drops_text t ++ 10 ∷ []
 
 -- the line of a report: its fields in this order
@@ -129,7 +129,7 @@ fresh (Some seconds) now None = None
 fresh (Some seconds) now (Some c) = if nat_le (now - c.tick) seconds then Some c else None
 
 -- by the reason
-abbrev pub culprits_text : (seconds : Option ℕ) → (now : ℕ) → Tally → List ℕ
+abbrev pub culprits_text : (seconds : Option ℕ) → (now : ℕ) → DropTally → List ℕ
 culprits_text seconds now t =
     culprit_text (codes " malformed, last from ") t.malformed (fresh seconds now t.last.malformed)
     ++ (culprit_text (codes " of own network, last from ") t.own_network (fresh seconds now t.last.own_network)

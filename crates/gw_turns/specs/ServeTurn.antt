@@ -17,7 +17,7 @@ use Rattle.gw_turns.specs.Pace.{one_more}
 use Rattle.gw_turns.specs.Stretch.{GoOn, IsFaulty, IsWithheld, Moment, wire_counts}
 use Rattle.gw_turns.specs.Ports.{sent_at}
 use Rattle.gw_turns.specs.Tally.{number_if, tally_from}
-use Rattle.gw_turns.specs.declared.tally.Tally.{Tally}
+use Rattle.gw_turns.specs.declared.tally.DropTally.{DropTally}
 use Rattle.gw_wire.specs.Wire.{Call, Records}
 use Rattle.gw_turns.specs.Serve.{Scene, Try, Turn, LeadTo, EndsBy, count_turn, count_fault, failures, lines_of}
 use Rattle.gw_turns.specs.Serve.{ports_after, successes, try_call, turn_events}
@@ -41,7 +41,7 @@ pub record HasRoom (s : Served) (wire_failures : ℕ) : Type 0 where
   pub failures : wire_failures + 2 ^ 64 ≤ 2 ^ 128
 
 -- a turn went as it must, or its event ended in a fault, and isn't tallied
-abbrev pub TurnEnd : Scene → Served → Tally → Scene → Served → Tally → Result Unit ServeFault → Type 0
+abbrev pub TurnEnd : Scene → Served → DropTally → Scene → Served → DropTally → Result Unit ServeFault → Type 0
 TurnEnd before s was after t is (Ok done) =
     (turn : Turn) × LeadTo before (turn ∷ []) after × (t ≡ count_turn s turn)
     × (is ≡ tally_from before.gateway was (turn_events turn))

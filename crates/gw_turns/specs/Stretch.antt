@@ -14,9 +14,9 @@ use Rattle.gw_turns.specs.Tally.{IsBelow, tally_from}
 use Rattle.gw_turns.specs.declared.serving.ServeFault.{ServeFault}
 use Rattle.gw_turns.specs.declared.serving.ServeFault.TheVariants.{Log, Memory, CountEnd}
 use Rattle.gw_turns.specs.declared.serving.Served.{Served}
-use Rattle.gw_turns.specs.declared.stretch.Pause.{Pause}
-use Rattle.gw_turns.specs.declared.stretch.Pause.TheVariants.{Turns, Tick, Withheld}
-use Rattle.gw_turns.specs.declared.tally.Tally.{Tally}
+use Rattle.gw_turns.specs.declared.stretch.StretchEnd.{StretchEnd}
+use Rattle.gw_turns.specs.declared.stretch.StretchEnd.TheVariants.{Turns, Tick, Withheld}
+use Rattle.gw_turns.specs.declared.tally.DropTally.{DropTally}
 
 -- ---- one event
 
@@ -36,9 +36,9 @@ pub record Moment (G : Type 0) : Type 0 where
   pub scene : Scene
   pub guard : G
   pub served : Served
-  pub tally : Tally
+  pub tally : DropTally
 
-abbrev pub moment : {G : Type 0} → Scene → G → Served → Tally → Moment G
+abbrev pub moment : {G : Type 0} → Scene → G → Served → DropTally → Moment G
 moment now guard served tally = record { scene = now; guard = guard; served = served; tally = tally }
 
 -- The event that is taken in a turn is passed, and its datagrams may go; without an event the guard stays as it is.
@@ -136,7 +136,7 @@ pub record EndsFaulty {G : Type 0} (Passes : G → State → Event → G → Boo
 
 -- what a stretch of at most so many turns leads to, by its answer; if the log failed, this is what it lacks of the last event's lines
 abbrev pub EndsStretch : {G : Type 0} → (Passes : G → State → Event → G → Bool → Type 0) → ℕ → Moment G
-    → Result Pause ServeFault → (unwritten : List ℕ) → Moment G → Type 0
+    → Result StretchEnd ServeFault → (unwritten : List ℕ) → Moment G → Type 0
 EndsStretch Passes count before (Ok Turns) unwritten after = EndsAtTurns Passes count before after
 EndsStretch Passes count before (Ok Tick) unwritten after = EndsAtTick Passes count before after
 EndsStretch Passes count before (Ok Withheld) unwritten after = EndsWithheld Passes count before after
@@ -149,7 +149,7 @@ abbrev pub wire_counts : Served → ℕ
 wire_counts s = s.recv_failures + s.sends + s.send_failures
 
 -- so many turns more can be counted, after those that were
-pub record CanCount (s : Served) (t : Tally) (wire_failures more : ℕ) : Type 0 where
+pub record CanCount (s : Served) (t : DropTally) (wire_failures more : ℕ) : Type 0 where
   pub turns : s.turns + more < 2 ^ 63
   pub each : s.taken + s.memory_drops + s.recv_failures ≤ s.turns
   pub calls : wire_counts s ≤ s.turns * (2 ^ 64 - 1)

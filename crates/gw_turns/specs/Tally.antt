@@ -17,7 +17,7 @@ use Rattle.gw_core.specs.State.{State}
 use Rattle.gw_turns.specs.Ports.{nothing_received, received_at}
 use Rattle.gw_turns.specs.declared.tally.Culprit.{Culprit}
 use Rattle.gw_turns.specs.declared.tally.Culprits.{Culprits}
-use Rattle.gw_turns.specs.declared.tally.Tally.{Tally}
+use Rattle.gw_turns.specs.declared.tally.DropTally.{DropTally}
 
 abbrev pub is_for : ℕ → Denial → Bool
 is_for operation d = option_map_or (λ number. number == operation) d.ask.operation false
@@ -79,7 +79,7 @@ culprits_of culprit drop = record {
 abbrev pub no_culprits : Culprits
 no_culprits = record { malformed = None; own_network = None; no_peer = None }
 
-abbrev pub no_tally : Tally
+abbrev pub no_tally : DropTally
 no_tally = record {
   enter = 0;
   claim = 0;
@@ -91,7 +91,7 @@ no_tally = record {
 }
 
 -- a tally after one event more, by where it came from, why it is dropped and what is denied of it
-abbrev pub tally_with : Tally → Option Culprit → Option DropReason → List Denial → Tally
+abbrev pub tally_with : DropTally → Option Culprit → Option DropReason → List Denial → DropTally
 tally_with t culprit drop denials = record {
   enter = t.enter + number_if (denies operations.Enter denials);
   claim = t.claim + number_if (denies operations.Claim denials);
@@ -103,16 +103,16 @@ tally_with t culprit drop denials = record {
 }
 
 -- the tally after an event that is taken in this state
-unfoldable pub tally_at : State → Tally → Event → Tally
+unfoldable pub tally_at : State → DropTally → Event → DropTally
 tally_at w tally e = tally_with tally (culprit_of w.ticks e) (drop_at w e) (effects_at w e).denials
 
 -- the tally after these events, which are taken from this state on
-unfoldable pub tally_from : State → Tally → List Event → Tally
+unfoldable pub tally_from : State → DropTally → List Event → DropTally
 tally_from w tally [] = tally
 tally_from w tally (e ∷ events) = tally_from (next w e) (tally_at w tally e) events
 
 -- each count is at most so much
-pub record IsBelow (most : ℕ) (tally : Tally) : Type 0 where
+pub record IsBelow (most : ℕ) (tally : DropTally) : Type 0 where
   pub enter : tally.enter ≤ most
   pub claim : tally.claim ≤ most
   pub malformed : tally.malformed ≤ most

@@ -16,7 +16,7 @@ pub(crate) const OLDEST_TICKS: u64 = 600;
 
 /// What of two saved states is compared.
 #[derive(Clone, Copy)]
-pub enum Part {
+pub enum SavedPart {
     /// What lasts: the ports with their tables of peers, and the objects with their slots and defaults.
     Lasting,
     /// All but how many ticks there were, and how many are left of a registration that ends at the same tick; for fewer than 600
@@ -25,12 +25,12 @@ pub enum Part {
 }
 
 /// Whether this of a saved state is the same as of one that is kept.
-pub(crate) fn is_same(part: Part, kept: &Saved, due: &Saved) -> bool
+pub(crate) fn is_same(part: SavedPart, kept: &Saved, due: &Saved) -> bool
     ensures { result ≡ is_same part kept.now due.now }
 {
     match part {
-        Part::Lasting => lasts_alike(kept, due),
-        Part::AllButTicks => alike_but_ticks(kept, due) && is_fresh(kept, due),
+        SavedPart::Lasting => lasts_alike(kept, due),
+        SavedPart::AllButTicks => alike_but_ticks(kept, due) && is_fresh(kept, due),
     }
 }
 

@@ -6,7 +6,7 @@ ghost use Rattle.gw_addr.specs.declared.TheConstants.{MAX_PORTS};
 ghost use Rattle.gw_turns.specs.Announcing.{Announces, AnnouncesAt, first_announcing, pause_after_try, put_off, with_due};
 ghost use Rattle.gw_turns.specs.Stretch.{CanCount};
 ghost use Rattle.gw_turns.specs.declared.serving.Served.{Served as Counts};
-ghost use Rattle.gw_turns.specs.declared.tally.Tally.{Tally};
+ghost use Rattle.gw_turns.specs.declared.tally.DropTally.{DropTally};
 
 use crate::pace::next_pause;
 use crate::serving::{Served, try_sends};
@@ -78,7 +78,7 @@ impl Announcing {
     pub fn announce<W: Wire>(&mut self, alloc: Global, gateway: &Gateway, wire: &mut W)
         ensures announces { Announces self.old gateway.now (W.calls wire.old) self.new (W.calls wire.new) }
         // As many turns can still be counted.
-        ensures counted { (served : Counts) (tally : Tally) (more : ℕ) →
+        ensures counted { (served : Counts) (tally : DropTally) (more : ℕ) →
             CanCount served tally (W.failure_count wire.old) more → CanCount served tally (W.failure_count wire.new) more }
         ensures ports { W.port_count wire.new ≡ W.port_count wire.old }
         ensures behind { W.behind wire.new ≡ W.behind wire.old }
@@ -92,7 +92,7 @@ impl Announcing {
     fn announce_at<W: Wire>(&mut self, alloc: Global, gateway: &Gateway, wire: &mut W, place: usize)
         requires { place < MAX_PORTS }
         ensures announces { AnnouncesAt place self.old gateway.now (W.calls wire.old) self.new (W.calls wire.new) }
-        ensures counted { (served : Counts) (tally : Tally) (more : ℕ) →
+        ensures counted { (served : Counts) (tally : DropTally) (more : ℕ) →
             CanCount served tally (W.failure_count wire.old) more → CanCount served tally (W.failure_count wire.new) more }
         ensures ports { W.port_count wire.new ≡ W.port_count wire.old }
         ensures behind { W.behind wire.new ≡ W.behind wire.old }

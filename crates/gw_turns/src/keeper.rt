@@ -8,7 +8,7 @@ ghost use Rattle.gw_turns.specs.Pace.{may_try, one_more, paced, ticked};
 ghost use Rattle.gw_wire.specs.Store.{Holds};
 
 use crate::ahead::{is_ahead, number_for};
-use crate::alike::{Part, is_same};
+use crate::alike::{SavedPart, is_same};
 use crate::pace::{Pace, one_more};
 use gw_core::{Gateway, Guard, SeenAsks, Taken};
 use gw_rules::Ask;
@@ -175,14 +175,14 @@ impl<S: Store + Drop> Keeper<S> {
         ensures { KeepsDue S.held self.old gateway.now self.new }
     {
         if self.is_due(gateway) {
-            self.keep_changed(alloc, gateway, Part::AllButTicks);
+            self.keep_changed(alloc, gateway, SavedPart::AllButTicks);
         } else {
             self.pace = self.pace.rested();
         }
     }
 
     /// Whether this of a state is kept.
-    fn is_kept(&self, part: Part, saved: &Saved) -> bool
+    fn is_kept(&self, part: SavedPart, saved: &Saved) -> bool
         ensures { result ≡ is_kept part self.now.kept saved.now }
     {
         match &self.kept {
@@ -271,7 +271,7 @@ impl<S: Store + Drop> Keeper<S> {
     }
 
     /// Tries to keep the state of a gateway unless this of it is kept, and says whether it is kept.
-    fn keep_changed(&mut self, alloc: Global, gateway: &Gateway, part: Part) -> bool
+    fn keep_changed(&mut self, alloc: Global, gateway: &Gateway, part: SavedPart) -> bool
         ensures { KeepsChanged part S.held self.old (due_of self.old gateway.now) self.new result }
     {
         match self.due(alloc, gateway) {
@@ -291,7 +291,7 @@ impl<S: Store + Drop> Keeper<S> {
             self.spare();
             return false;
         }
-        self.keep_changed(alloc, gateway, Part::Lasting)
+        self.keep_changed(alloc, gateway, SavedPart::Lasting)
     }
 }
 

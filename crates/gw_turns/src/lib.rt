@@ -16,7 +16,7 @@ mod tally;
 mod unwritten;
 
 pub use ahead::MOST_AHEAD;
-pub use alike::Part;
+pub use alike::SavedPart;
 pub use announcing::Announcing;
 pub use keeper::Keeper;
 pub use pace::{Pace, one_more};
@@ -27,6 +27,6 @@ pub use report::{
 };
 pub use seen::Refusals;
 pub use serving::{ServeFault, ServeState, ServeStop, Served, serve};
-pub use stretch::Pause;
-pub use tally::{Culprit, Culprits, Tally};
+pub use stretch::StretchEnd;
+pub use tally::{Culprit, Culprits, DropTally};
 pub use unwritten::write_out;

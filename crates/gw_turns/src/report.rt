@@ -11,7 +11,7 @@ ghost use Rattle.gw_turns.specs.Reports.{HasGoneOn, announced_text, announcing_l
 use crate::announcing::Announcing;
 use crate::ports::{Health, PortSends, PortTally};
 use crate::serving::Served;
-use crate::tally::{Culprit, Tally};
+use crate::tally::{Culprit, DropTally};
 use gw_addr::{BipAddr, MAX_PORTS};
 use gw_core::{Counts, Gateway};
 use gw_relay::PortState;
@@ -42,7 +42,7 @@ pub struct Report {
     /// How many networks have a learned route.
     pub learned_routes: u64,
     /// How many datagrams weren't passed on, and how many came to each port.
-    pub tally: Tally,
+    pub tally: DropTally,
     /// How many ports the gateway has.
     pub port_count: usize,
     /// What came of the sends on each port.
@@ -96,7 +96,7 @@ pub fn has_gone_on(start: Counts, gateway: &Gateway, served: &Served) -> bool
 }
 
 /// What is reported of a gateway that began with these counts, when so much was done.
-pub fn report_of(start: Counts, gateway: &Gateway, served: &Served, tally: Tally) -> Report
+pub fn report_of(start: Counts, gateway: &Gateway, served: &Served, tally: DropTally) -> Report
     requires since { HasGoneOn start gateway.now served.now }
     ensures report { result ≡ report_of start gateway.now served.now tally }
     ensures few { result.port_count ≤ MAX_PORTS }
@@ -168,7 +168,7 @@ fn write_tables<S: OctetSink>(report: &Report, sink: &mut S) -> Result<(), Write
 }
 
 /// Writes how many datagrams the policy kept out.
-fn write_refusals<S: OctetSink>(tally: &Tally, sink: &mut S) -> Result<(), WriteFailed>
+fn write_refusals<S: OctetSink>(tally: &DropTally, sink: &mut S) -> Result<(), WriteFailed>
     ensures ok { OnOk result
         (Appends (S.held sink.old) (S.held sink.new) (refusals_text tally.now)) }
     ensures sure { S.NeverFails sink.old → IsOk result }
@@ -179,7 +179,7 @@ fn write_refusals<S: OctetSink>(tally: &Tally, sink: &mut S) -> Result<(), Write
 }
 
 /// Writes how many datagrams were dropped before the policy was asked.
-fn write_drops<S: OctetSink>(tally: &Tally, sink: &mut S) -> Result<(), WriteFailed>
+fn write_drops<S: OctetSink>(tally: &DropTally, sink: &mut S) -> Result<(), WriteFailed>
     ensures ok { OnOk result (Appends (S.held sink.old) (S.held sink.new) (drops_text tally.now)) }
     ensures sure { S.NeverFails sink.old → IsOk result }
     ensures lasts { S.NeverFails sink.old → S.NeverFails sink.new }
@@ -190,7 +190,7 @@ fn write_drops<S: OctetSink>(tally: &Tally, sink: &mut S) -> Result<(), WriteFai
 }
 
 /// Writes how many datagrams weren't passed on, and ends the line.
-fn write_tally<S: OctetSink>(tally: &Tally, sink: &mut S) -> Result<(), WriteFailed>
+fn write_tally<S: OctetSink>(tally: &DropTally, sink: &mut S) -> Result<(), WriteFailed>
     ensures ok { OnOk result (Appends (S.held sink.old) (S.held sink.new) (tally_text tally.now)) }
     ensures sure { S.NeverFails sink.old → IsOk result }
     ensures lasts { S.NeverFails sink.old → S.NeverFails sink.new }
@@ -309,7 +309,7 @@ fn fresh(seconds: Option<u64>, now: u64, culprit: Option<Culprit>) -> Option<Cul
 pub fn write_culprits<S: OctetSink>(
     seconds: Option<u64>,
     now: u64,
-    tally: &Tally,
+    tally: &DropTally,
     sink: &mut S,
 ) -> Result<(), WriteFailed>
     ensures ok { OnOk result (Appends (S.held sink.old) (S.held sink.new) (culprits_text seconds now tally.now)) }

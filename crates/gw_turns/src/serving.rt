@@ -14,7 +14,7 @@ ghost use Rattle.gw_relay.specs.Sends.{sendings_of};
 use crate::pace::one_more;
 use crate::ports::{PortSends, count_sent};
 use crate::seen::{Refusals, take_seen};
-use crate::tally::{Tally, number_if};
+use crate::tally::{DropTally, number_if};
 use crate::unwritten::write_out;
 use gw_addr::MAX_PORTS;
 use gw_audit::{Denials, line};
@@ -173,7 +173,7 @@ pub struct ServeState {
     /// What was done so far.
     pub served: Served,
     /// How many datagrams weren't passed on, in whole turns.
-    pub tally: Tally,
+    pub tally: DropTally,
     /// How often the gateway refused an event for want of memory.
     pub refusals: Refusals,
 }
@@ -193,7 +193,7 @@ impl ServeState {
             datagram: [0; RECEIVE_ROOM],
             unwritten: Vec::new(alloc),
             served: Served::none(),
-            tally: Tally::none(),
+            tally: DropTally::none(),
             refusals: Refusals::none(),
         }
     }

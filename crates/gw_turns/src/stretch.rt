@@ -11,7 +11,7 @@ use gw_wire::Wire;
 
 /// Why a stretch of serving ended.
 #[derive(Clone, Copy)]
-pub enum Pause {
+pub enum StretchEnd {
     /// All its turns were done, and no tick was taken.
     Turns,
     /// A tick was taken, in its last turn.
@@ -37,7 +37,7 @@ impl ServeState {
         wire: &mut W,
         log: &mut L,
         guard: &mut G,
-    ) -> Result<Pause, ServeFault>
+    ) -> Result<StretchEnd, ServeFault>
         requires { CanCount self.old.served self.old.tally (W.failure_count wire.old) self.old.left }
         // What there is then, as some list of turns leads to.
         ensures end { let before = moment
@@ -68,12 +68,12 @@ impl ServeState {
                 Err(fault) => return Err(fault),
             };
             if !is_passed {
-                return Ok(Pause::Withheld);
+                return Ok(StretchEnd::Withheld);
             }
             if ticks < gateway.counts().ticks {
-                return Ok(Pause::Tick);
+                return Ok(StretchEnd::Tick);
             }
         }
-        Ok(Pause::Turns)
+        Ok(StretchEnd::Turns)
     }
 }

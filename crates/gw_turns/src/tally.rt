@@ -36,7 +36,7 @@ pub struct Culprits {
 
 /// How many datagrams weren't passed on, by the reason, and how many came, by the port; what a quiet rule denied isn't counted.
 #[derive(Clone, Copy)]
-pub struct Tally {
+pub struct DropTally {
     /// How many the policy didn't let enter.
     pub enter: u64,
     /// How many it didn't let speak for another network.
@@ -123,12 +123,12 @@ impl Culprits {
     }
 }
 
-impl Tally {
+impl DropTally {
     /// Nothing was counted.
     pub fn none() -> Self
         ensures { result ≡ no_tally }
     {
-        Tally {
+        DropTally {
             enter: 0,
             claim: 0,
             malformed: 0,

@@ -10,10 +10,10 @@ mod step;
 mod text;
 mod words;
 
-pub use answer::{Answer, Outcome, answer_question};
+pub use answer::{AnswerKind, QuestionAnswer, answer_question};
 pub use call::{Audience, Call};
 pub use datagram::make_request;
-pub use deed::{Deed, DeedWords, deed_of};
+pub use deed::{Deed, DeedInWords, deed_of};
 pub use fault::{PlaceFault, Unasked};
-pub use place::{Question, Spelled, Station, Target, station_of, target_of};
-pub use words::{Subject, Words, answer_words};
+pub use place::{Addressee, Question, Spelled, Station, station_of, target_of};
+pub use words::{QuestionWords, Subject, answer_words};

@@ -11,7 +11,7 @@ use Rattle.gw_decisions.specs.tally.Tally.{one_more}
 use Rattle.gw_watchers.specs.Beside.{IsEnded, IsPut, IsRecorded, ended}
 use Rattle.gw_watchers.specs.declared.beside.Beside.{Beside}
 use Rattle.gw_watchers.specs.Records.{Line, last_number, lines_of, record_of, recorded, records}
-use Rattle.gw_watchers.specs.declared.writing.Put.{Put}
+use Rattle.gw_watchers.specs.declared.writing.RecordOutcome.{RecordOutcome}
 
 -- ---- records
 
@@ -39,10 +39,10 @@ lines_along one two = flat_map-append (λ d. d.front ++ line_text d.denial) one 
 
 -- ---- what is put
 
-pub put_none : (text : List ℕ) (p : Put) → IsPut [] p text text p
+pub put_none : (text : List ℕ) (p : RecordOutcome) → IsPut [] p text text p
 put_none text p = record { last = refl; count = omega arith; whole = λ whole. (whole, sym (append-nil text)) }
 
-pub put_along : (one two : List Line) (a b c : Put) (old mid new : List ℕ) → IsPut one a old mid b
+pub put_along : (one two : List Line) (a b c : RecordOutcome) (old mid new : List ℕ) → IsPut one a old mid b
     → IsPut two b mid new c → IsPut (one ++ two) a old new c
 put_along one two a b c old mid new p q = record {
   last = q.last ∙ ap (λ (n : ℕ). last_number n two) p.last ∙ sym (last_along a.last one two);
@@ -59,7 +59,7 @@ put_along one two a b c old mid new p q = record {
 
 -- one ask more
 pub put_next : (chosen : Asked → Option (Option ℕ)) (front : Asked → List ℕ) (rules : List Rule) (last tick : ℕ) (done : List Asked) (a : Asked)
-    (start b c : Put) (old mid new : List ℕ) → start.last ≡ last
+    (start b c : RecordOutcome) (old mid new : List ℕ) → start.last ≡ last
     → IsPut (records chosen front rules last tick done) start old mid b
     → IsPut (records chosen front rules b.last tick (a ∷ [])) b mid new c
     → IsPut (records chosen front rules last tick (done ++ a ∷ [])) start old new c
@@ -72,7 +72,7 @@ put_next chosen front rules last tick done a start b c old mid new begun p q =
 
 -- one verdict more
 pub put_on_one : (asked : Verdict → Asked) (chosen : Asked → Option (Option ℕ)) (front : Asked → List ℕ) (rules : List Rule) (last tick : ℕ)
-    (verdicts : List Verdict) (place : ℕ) (other : Verdict) (start b c : Put) (old mid new : List ℕ) → place < length verdicts → start.last ≡ last
+    (verdicts : List Verdict) (place : ℕ) (other : Verdict) (start b c : RecordOutcome) (old mid new : List ℕ) → place < length verdicts → start.last ≡ last
     → IsPut (records chosen front rules last tick (map asked (take place verdicts))) start old mid b
     → IsPut (records chosen front rules b.last tick (asked (slice_index_or verdicts place other) ∷ [])) b mid new c
     → IsPut (records chosen front rules last tick (map asked (take (place + 1) verdicts))) start old new c

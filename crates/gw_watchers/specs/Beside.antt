@@ -3,16 +3,16 @@ use Rattle.std.specs.Prelude.{◌≡◌, ◌⊎◌, ℕ, ◌+◌, ◌-◌, ◌^�
 use Rattle.std.specs.Io.KnownBytes.{Appends}
 use Rattle.gw_watchers.specs.Records.{Line, last_number, lines_of}
 use Rattle.gw_watchers.specs.declared.beside.Beside.{Beside}
-use Rattle.gw_watchers.specs.declared.writing.Put.{Put}
+use Rattle.gw_watchers.specs.declared.writing.RecordOutcome.{RecordOutcome}
 
 -- ---- the lines of records
 
 -- before the first record
-abbrev pub start : ℕ → Put
+abbrev pub start : ℕ → RecordOutcome
 start last = record { last = last; count = 0; is_whole = true }
 
 -- The lines of these records are made, unless a growth is refused.
-pub record IsPut (due : List Line) (before : Put) (old new : List ℕ) (after : Put) : Type 0 where
+pub record IsPut (due : List Line) (before : RecordOutcome) (old new : List ℕ) (after : RecordOutcome) : Type 0 where
   pub last : after.last ≡ last_number before.last due
   pub count : after.count ≡ before.count + length due
   pub whole : after.is_whole ≡ true → (before.is_whole ≡ true) × (new ≡ old ++ lines_of due)

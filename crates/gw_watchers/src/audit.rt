@@ -4,7 +4,7 @@ ghost use Rattle.std.specs.Prelude.{◌≡◌, IfOk, codes};
 ghost use Rattle.gw_watchers.specs.Records.{audited_by, audits, is_marked, is_marked_at};
 ghost use Rattle.gw_watchers.specs.internal.Wanted.{audits_what_is_audited};
 
-use crate::choice::Choice;
+use crate::choice::RecordChoice;
 use gw_addr::put_slice;
 use gw_core::rule_name;
 use gw_rules::{Ask, RuleList, RuleName, Verdict};
@@ -59,7 +59,7 @@ impl Marks {
     }
 }
 
-impl Choice for Marks {
+impl RecordChoice for Marks {
     ghost chosen = { audited_by };
 
     ghost wants = { audits };

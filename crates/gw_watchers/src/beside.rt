@@ -9,8 +9,8 @@ ghost use Rattle.gw_watchers.specs.Beside.{IsEnded, IsRecorded, ended};
 ghost use Rattle.gw_watchers.specs.Watching.{wants_in};
 ghost use Rattle.gw_watchers.specs.internal.RecordedIn.{IsRecordedIn};
 
-use crate::choice::Choice;
-use crate::writing::{Put, Writing};
+use crate::choice::RecordChoice;
+use crate::writing::{RecordOutcome, Writing};
 use gw_core::{Gateway, SeenAsks};
 use gw_rules::Ask;
 use gw_script::{OctetSink, write_whole};
@@ -31,7 +31,7 @@ pub struct Beside<C, S> {
     pub is_cut: bool,
 }
 
-impl<C: Choice, S: OctetSink> Beside<C, S> {
+impl<C: RecordChoice, S: OctetSink> Beside<C, S> {
     /// A log of the asks that are chosen so, with no record yet.
     pub fn new(choice: C, sink: S) -> Self
         ensures choice { result.choice ≡ choice }
@@ -86,7 +86,7 @@ impl<C: Choice, S: OctetSink> Beside<C, S> {
     }
 
     /// Writes the lines of some records, if their text is begun and whole; else they are lost.
-    fn end_lines(&mut self, is_begun: bool, put: Put, text: &[u8])
+    fn end_lines(&mut self, is_begun: bool, put: RecordOutcome, text: &[u8])
         ensures { (due : List ℕ) → (is_begun ≡ true → put.is_whole ≡ true → text.now ≡ due) →
             IsEnded S.held due put.last put.count self.old self.new }
     {
@@ -102,7 +102,7 @@ impl<C: Choice, S: OctetSink> Beside<C, S> {
 
 /// Records the asks that are chosen, if something is recorded beside the log: of all that were asked, if each that may be chosen is seen
 /// whole.
-pub(crate) fn record_in<C: Choice, S: OctetSink>(
+pub(crate) fn record_in<C: RecordChoice, S: OctetSink>(
     beside: &mut Option<Beside<C, S>>,
     gateway: &Gateway,
     asked: &SeenAsks,
@@ -119,7 +119,7 @@ pub(crate) fn record_in<C: Choice, S: OctetSink>(
 
 /// Whether an ask may be recorded, if something is recorded beside the log.
 #[inline(always)]
-pub(crate) fn wants_in<C: Choice, S>(
+pub(crate) fn wants_in<C: RecordChoice, S>(
     beside: &Option<Beside<C, S>>,
     ask: &Ask,
     by: Option<u16>,

@@ -12,7 +12,7 @@ use gw_rules::{Ask, RuleList, RuleName, Verdict};
 use std::alloc::AllocError;
 
 /// Which asks are recorded beside the log, and how their lines begin.
-pub trait Choice {
+pub trait RecordChoice {
     /// Whether an ask is recorded, and then the number of the rule that its line names, if one decides it.
     ghost chosen: { Self → Asked → Option (Option ℕ) };
 

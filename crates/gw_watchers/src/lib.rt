@@ -14,6 +14,6 @@ mod writing;
 
 pub use audit::Marks;
 pub use beside::Beside;
-pub use choice::Choice;
+pub use choice::RecordChoice;
 pub use trial::Trial;
 pub use watcher::Watcher;

@@ -6,7 +6,7 @@ ghost use Rattle.gw_core.specs.Receive.{Origin};
 ghost use Rattle.gw_watchers.specs.Records.{decided_otherwise, denied_by, other_front, trial_front, tried_by, tries};
 ghost use Rattle.gw_watchers.specs.internal.Wanted.{tries_what_is_tried};
 
-use crate::choice::Choice;
+use crate::choice::RecordChoice;
 use gw_addr::put_slice;
 use gw_core::rule_name;
 use gw_rule_index::Policy;
@@ -61,7 +61,7 @@ fn put_other_front(rules: &RuleList, verdict: &Verdict, out: &mut Vec<u8>) -> Re
     put_slice(out, is.as_bytes())
 }
 
-impl Choice for Trial {
+impl RecordChoice for Trial {
     ghost chosen = { tried_by };
 
     ghost wants = { tries };

@@ -6,7 +6,7 @@ ghost use Rattle.gw_core.specs.Asked.{asked_from};
 ghost use Rattle.gw_watchers.specs.Records.{record_of, records};
 ghost use Rattle.gw_watchers.specs.Beside.{IsPut, start};
 
-use crate::choice::Choice;
+use crate::choice::RecordChoice;
 use gw_audit::line;
 use gw_core::{Denial, Whom};
 use gw_rules::{RuleList, Verdict};
@@ -27,7 +27,7 @@ pub(crate) struct Writing<'a, C> {
 
 /// What came of recording some asks.
 #[derive(Clone, Copy)]
-pub(crate) struct Put {
+pub(crate) struct RecordOutcome {
     /// The number of the last record.
     pub last: u64,
     /// How many records there were.
@@ -36,7 +36,7 @@ pub(crate) struct Put {
     pub is_whole: bool,
 }
 
-impl<C: Choice> Writing<'_, C> {
+impl<C: RecordChoice> Writing<'_, C> {
     /// Appends the line of a record. An `Err` only if a growth was refused; a part of it may then be there.
     fn put(
         &self,
@@ -64,7 +64,12 @@ impl<C: Choice> Writing<'_, C> {
     }
 
     /// Appends the line of an ask, if it is chosen.
-    fn put_next(&self, so_far: Put, verdict: &Verdict, text: &mut Vec<u8>) -> Put
+    fn put_next(
+        &self,
+        so_far: RecordOutcome,
+        verdict: &Verdict,
+        text: &mut Vec<u8>,
+    ) -> RecordOutcome
         requires { so_far.count < 2 ^ 64 - 1 }
         ensures { let rules = C.naming self.now.choice.now self.now.rules.now in
             let front = C.front self.now.choice.now self.now.rules.now in
@@ -75,7 +80,7 @@ impl<C: Choice> Writing<'_, C> {
         let Some(by) = self.choice.chosen(verdict) else {
             return so_far;
         };
-        let mut next = Put {
+        let mut next = RecordOutcome {
             last: so_far.last.saturating_add(1),
             count: so_far.count + 1,
             is_whole: false,
@@ -91,14 +96,19 @@ impl<C: Choice> Writing<'_, C> {
 
     /// Appends the lines of the asks that are chosen, numbered on from the number of the last record. If a growth is
     /// refused, a part of them may be there.
-    pub(crate) fn put_all(&self, last: u64, verdicts: &[Verdict], text: &mut Vec<u8>) -> Put
+    pub(crate) fn put_all(
+        &self,
+        last: u64,
+        verdicts: &[Verdict],
+        text: &mut Vec<u8>,
+    ) -> RecordOutcome
         ensures { let rules = C.naming self.now.choice.now self.now.rules.now in
             let front = C.front self.now.choice.now self.now.rules.now in
             let due = records (C.chosen self.now.choice.now) front rules last self.now.tick
             (map (asked_from self.now.whom.now) verdicts.now) in
             IsPut due (start last) text.old.items text.new.items result }
     {
-        let mut put = Put {
+        let mut put = RecordOutcome {
             last,
             count: 0,
             is_whole: true,

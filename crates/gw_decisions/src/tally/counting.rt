@@ -25,7 +25,7 @@ pub fn count_asks<R: OctetSource>(
     let Ok(tally) = Tally::new(alloc, rules) else {
         return Err(LinesFault::Memory);
     };
-    let mut counting = Counting {
+    let mut counting = AskCounting {
         lines: LineReader::new(),
         tally,
     };
@@ -35,12 +35,12 @@ pub fn count_asks<R: OctetSource>(
 
 /// What is kept from line to line.
 #[derive(Drop)]
-struct Counting {
+struct AskCounting {
     lines: LineReader,
     tally: Tally,
 }
 
-impl Counting {
+impl AskCounting {
     /// Counts the asks of all lines.
     fn count_each<R: OctetSource>(
         &mut self,

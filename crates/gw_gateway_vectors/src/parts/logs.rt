@@ -2,7 +2,7 @@
 
 use gw_addr::Source;
 use gw_audit::{ShownAsk, read_ask, read_line};
-use gw_cases::{MemReader, Streams, put_end, put_octets, put_word, unfolded};
+use gw_cases::{CaseStreams, MemReader, put_end, put_octets, put_word, unfolded};
 use gw_log_words::{Moment, last_denial, translate_log};
 use gw_rules::FieldName;
 use std::alloc::Global;
@@ -90,11 +90,11 @@ fn put_translation(
     line: &str,
     out: &mut Vec<u8>,
 ) -> io::Result<()> {
-    let Streams {
+    let CaseStreams {
         text,
         fails,
         mut writer,
-    } = Streams::parse(alloc, line)?;
+    } = CaseStreams::parse(alloc, line)?;
     let mut reader = MemReader::slow(&text, fails);
     put_end(translate_log(alloc, start, &mut reader, &mut writer), out)?;
     put_word(writer.held(), out)

@@ -3,7 +3,7 @@
 ghost use Rattle.std.specs.Prelude.{◌≡◌, ◌≤◌, ◌<◌, ◌++◌, [], ℕ, List, Some, false, length, OnErr, OnOk};
 ghost use Rattle.gw_gateway_vectors.specs.NamedLogs.{given};
 
-use gw_cases::{MemSink, Written, number, put_word, unfolded, wanted};
+use gw_cases::{MemSink, WrittenOctets, number, put_word, unfolded, wanted};
 use gw_log_words::{Lasting, NamedFiles, NamedLog};
 use gw_script::{OctetSink, WriteFailed, write_whole};
 use memchr::memchr;
@@ -26,7 +26,7 @@ pub struct MemFile<'a> {
 #[derive(Drop)]
 pub struct MemNamedFiles<'a> {
     alloc: Global,
-    left: Written,
+    left: WrittenOctets,
     looks: &'a [u8],
     most: usize,
     shown: &'a RefCell<MemSink>,
@@ -145,7 +145,7 @@ pub fn renamed(alloc: Global, line: &str, out: &mut Vec<u8>) -> io::Result<()> {
     let shown = RefCell::new(MemSink::new(alloc, None, 0)?);
     let files = MemNamedFiles {
         alloc,
-        left: Written::new(),
+        left: WrittenOctets::new(),
         looks: looks.as_bytes(),
         most,
         shown: &shown,

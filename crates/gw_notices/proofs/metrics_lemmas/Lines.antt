@@ -12,20 +12,20 @@ use Rattle.gw_notices.specs.metrics.Escape.{escaped, escaped_octet}
 use Rattle.gw_notices.specs.metrics.Family.{families, family_help, family_kind, family_name, kind_name, label_name}
 use Rattle.gw_notices.specs.metrics.Laws.{FamiliesAreOnce, IsUnder, LinesHaveNoFeed, SamplesAreUnderTheirFamily, TextIsLines, helps, is_counted}
 use Rattle.gw_notices.specs.metrics.Text.{Count, Help, KindOf, Labelled, Line, Sample, family_lines, family_text, full_line, label_text, lines_text, samples_of}
-use Rattle.gw_notices.specs.declared.metrics.counts.Counts.{Counts}
+use Rattle.gw_notices.specs.declared.metrics.counts.GatewayCounts.{GatewayCounts}
 use Rattle.gw_notices.specs.declared.metrics.family.Family.{Family}
 use Rattle.gw_notices.specs.declared.metrics.family.Family.TheVariants as family
-use Rattle.gw_notices.specs.declared.metrics.family.Kind.{Kind}
-use Rattle.gw_notices.specs.declared.metrics.family.Kind.TheVariants.{Counter, Gauge}
-use Rattle.gw_notices.specs.declared.metrics.family.Label.{Label}
-use Rattle.gw_notices.specs.declared.metrics.family.Label.TheVariants as label
+use Rattle.gw_notices.specs.declared.metrics.family.FamilyKind.{FamilyKind}
+use Rattle.gw_notices.specs.declared.metrics.family.FamilyKind.TheVariants.{Counter, Gauge}
+use Rattle.gw_notices.specs.declared.metrics.family.SampleLabel.{SampleLabel}
+use Rattle.gw_notices.specs.declared.metrics.family.SampleLabel.TheVariants as label
 
 -- ---- families
 
-abbrev all_lines : Counts → List Family → List Line
+abbrev all_lines : GatewayCounts → List Family → List Line
 all_lines c list = flat_map (λ f. family_lines f (samples_of c f)) list
 
-lines_of : (c : Counts) (list : List Family) → flat_map (family_text c) list ≡ lines_text (all_lines c list)
+lines_of : (c : GatewayCounts) (list : List Family) → flat_map (family_text c) list ≡ lines_text (all_lines c list)
 lines_of c [] = refl
 lines_of c (f ∷ list) =
     ap (λ (t : List ℕ). family_text c f ++ t) (lines_of c list)
@@ -43,7 +43,7 @@ under_family : (f g : Family) (samples : Option (List Sample)) (lines : List Lin
 under_family f g None lines is = is f
 under_family f g (Some samples) lines is = (refl, under_samples g samples lines (is g))
 
-under_all : (c : Counts) (list : List Family) (f : Family) → IsUnder f (all_lines c list)
+under_all : (c : GatewayCounts) (list : List Family) (f : Family) → IsUnder f (all_lines c list)
 under_all c [] f = tt
 under_all c (g ∷ list) f = under_family f g (samples_of c g) (all_lines c list) (under_all c list)
 
@@ -59,7 +59,7 @@ helps_family : (f : Family) (samples : Option (List Sample)) (lines : List Line)
 helps_family f None lines = refl
 helps_family f (Some samples) lines = ap (λ (l : List Family). f ∷ l) (helps_samples f samples lines)
 
-helps_all : (c : Counts) (list : List Family) → helps (all_lines c list) ≡ filter (is_counted c) list
+helps_all : (c : GatewayCounts) (list : List Family) → helps (all_lines c list) ≡ filter (is_counted c) list
 helps_all c [] = refl
 helps_all c (f ∷ list) =
     helps_family f (samples_of c f) (all_lines c list)
@@ -144,11 +144,11 @@ help_lacks family.UnkeptStates = refl
 help_lacks family.LostLines = refl
 help_lacks family.LostMetrics = refl
 
-kind_lacks : (k : Kind) → has_no_feed (kind_name k) ≡ true
+kind_lacks : (k : FamilyKind) → has_no_feed (kind_name k) ≡ true
 kind_lacks Counter = refl
 kind_lacks Gauge = refl
 
-label_lacks : (l : Label) → has_no_feed (label_name l) ≡ true
+label_lacks : (l : SampleLabel) → has_no_feed (label_name l) ≡ true
 label_lacks label.Version = refl
 label_lacks label.Reason = refl
 label_lacks label.Rule = refl

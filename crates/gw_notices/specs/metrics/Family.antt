@@ -2,10 +2,10 @@
 use Rattle.std.specs.Prelude.{ℕ, List, [], ◌∷◌, codes}
 use Rattle.gw_notices.specs.declared.metrics.family.Family.{Family}
 use Rattle.gw_notices.specs.declared.metrics.family.Family.TheVariants as family
-use Rattle.gw_notices.specs.declared.metrics.family.Kind.{Kind}
-use Rattle.gw_notices.specs.declared.metrics.family.Kind.TheVariants.{Counter, Gauge}
-use Rattle.gw_notices.specs.declared.metrics.family.Label.{Label}
-use Rattle.gw_notices.specs.declared.metrics.family.Label.TheVariants as label
+use Rattle.gw_notices.specs.declared.metrics.family.FamilyKind.{FamilyKind}
+use Rattle.gw_notices.specs.declared.metrics.family.FamilyKind.TheVariants.{Counter, Gauge}
+use Rattle.gw_notices.specs.declared.metrics.family.SampleLabel.{SampleLabel}
+use Rattle.gw_notices.specs.declared.metrics.family.SampleLabel.TheVariants as label
 
 -- all of them, in the order of the text
 abbrev pub families : List Family
@@ -98,7 +98,7 @@ family_help family.LostLines = codes "Lines that were lost of the log of a trial
 family_help family.LostMetrics = codes "Times that this text could not be written."
 
 -- a counter only grows or begins anew, a gauge also falls
-abbrev pub family_kind : Family → Kind
+abbrev pub family_kind : Family → FamilyKind
 family_kind family.Build = Gauge
 family_kind family.Ticks = Counter
 family_kind family.Received = Counter
@@ -127,11 +127,11 @@ family_kind family.UnkeptStates = Counter
 family_kind family.LostLines = Counter
 family_kind family.LostMetrics = Counter
 
-abbrev pub kind_name : Kind → List ℕ
+abbrev pub kind_name : FamilyKind → List ℕ
 kind_name Counter = codes "counter"
 kind_name Gauge = codes "gauge"
 
-abbrev pub label_name : Label → List ℕ
+abbrev pub label_name : SampleLabel → List ℕ
 label_name label.Version = codes "version"
 label_name label.Reason = codes "reason"
 label_name label.Rule = codes "rule"

@@ -6,10 +6,10 @@ use Rattle.gw_addr.specs.Text.{Lacks}
 use Rattle.gw_notices.specs.metrics.Escape.{escaped, read_value}
 use Rattle.gw_notices.specs.metrics.Family.{families, family_kind, family_name}
 use Rattle.gw_notices.specs.metrics.Text.{Count, Help, KindOf, Line, line_text, lines_text, metrics_lines, metrics_text, samples_of}
-use Rattle.gw_notices.specs.declared.metrics.counts.Counts.{Counts}
+use Rattle.gw_notices.specs.declared.metrics.counts.GatewayCounts.{GatewayCounts}
 use Rattle.gw_notices.specs.declared.metrics.family.Family.{Family}
-use Rattle.gw_notices.specs.declared.metrics.family.Kind.{Kind}
-use Rattle.gw_notices.specs.declared.metrics.family.Kind.TheVariants.{Counter, Gauge}
+use Rattle.gw_notices.specs.declared.metrics.family.FamilyKind.{FamilyKind}
+use Rattle.gw_notices.specs.declared.metrics.family.FamilyKind.TheVariants.{Counter, Gauge}
 
 -- ---- values of labels
 
@@ -25,7 +25,7 @@ OnlyEscapesAreRead = (text value rest : List ℕ) → read_value text ≡ Some (
 
 -- the text is its lines, each with a line feed after it
 abbrev pub TextIsLines : Type 0
-TextIsLines = (c : Counts) → metrics_text c ≡ lines_text (metrics_lines c)
+TextIsLines = (c : GatewayCounts) → metrics_text c ≡ lines_text (metrics_lines c)
 
 -- its number has at most 128 bits, if the line has one
 abbrev pub HasPlainNumber : Line → Type 0
@@ -46,7 +46,7 @@ IsUnder f (Count g sample ∷ lines) = (g ≡ f) × IsUnder f lines
 
 -- so it is in the text, whatever is before it
 abbrev pub SamplesAreUnderTheirFamily : Type 0
-SamplesAreUnderTheirFamily = (c : Counts) (f : Family) → IsUnder f (metrics_lines c)
+SamplesAreUnderTheirFamily = (c : GatewayCounts) (f : Family) → IsUnder f (metrics_lines c)
 
 -- the families that lines begin
 abbrev pub helps : List Line → List Family
@@ -55,12 +55,12 @@ helps (Help f ∷ lines) = f ∷ helps lines
 helps (KindOf f ∷ lines) = helps lines
 helps (Count f sample ∷ lines) = helps lines
 
-abbrev pub is_counted : Counts → Family → Bool
+abbrev pub is_counted : GatewayCounts → Family → Bool
 is_counted c f = is_some (samples_of c f)
 
 -- the text begins each family once that is counted, in their order
 abbrev pub FamiliesAreOnce : Type 0
-FamiliesAreOnce = (c : Counts) → helps (metrics_lines c) ≡ filter (is_counted c) families
+FamiliesAreOnce = (c : GatewayCounts) → helps (metrics_lines c) ≡ filter (is_counted c) families
 
 -- ---- names
 
@@ -68,7 +68,7 @@ FamiliesAreOnce = (c : Counts) → helps (metrics_lines c) ≡ filter (is_counte
 abbrev pub NamesDiffer : Type 0
 NamesDiffer = (f : Family) → find (λ g. pointwise nat_eq (family_name g) (family_name f)) families ≡ Some f
 
-abbrev pub is_counter : Kind → Bool
+abbrev pub is_counter : FamilyKind → Bool
 is_counter Counter = true
 is_counter Gauge = false
 

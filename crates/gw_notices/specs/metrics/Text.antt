@@ -4,15 +4,15 @@ use Rattle.std.specs.List.{flat_map}
 use Rattle.hex.specs.Hex.{encode_lower}
 use Rattle.gw_rules.specs.declared.rule.Rule.{Rule}
 use Rattle.gw_notices.specs.declared.checksum.Checksum.{Checksum}
-use Rattle.gw_notices.specs.declared.metrics.counts.Counts.{Counts}
+use Rattle.gw_notices.specs.declared.metrics.counts.GatewayCounts.{GatewayCounts}
 use Rattle.gw_notices.specs.declared.metrics.counts.Drops.{Drops}
 use Rattle.gw_notices.specs.declared.metrics.counts.PortCounts.{PortCounts}
 use Rattle.gw_notices.specs.declared.metrics.counts.Reloads.{Reloads}
 use Rattle.gw_notices.specs.declared.metrics.counts.StateTries.{StateTries}
 use Rattle.gw_notices.specs.declared.metrics.family.Family.{Family}
 use Rattle.gw_notices.specs.declared.metrics.family.Family.TheVariants as family
-use Rattle.gw_notices.specs.declared.metrics.family.Label.{Label}
-use Rattle.gw_notices.specs.declared.metrics.family.Label.TheVariants as label
+use Rattle.gw_notices.specs.declared.metrics.family.SampleLabel.{SampleLabel}
+use Rattle.gw_notices.specs.declared.metrics.family.SampleLabel.TheVariants as label
 use Rattle.gw_notices.specs.metrics.Escape.{escaped}
 use Rattle.gw_notices.specs.metrics.Family.{families, family_help, family_kind, family_name, kind_name, label_name}
 
@@ -20,7 +20,7 @@ use Rattle.gw_notices.specs.metrics.Family.{families, family_help, family_kind, 
 
 -- a label with its value
 pub record Labelled : Type 0 where
-  pub label : Label
+  pub label : SampleLabel
   pub value : List ℕ
 
 -- a number of a family, with the label by which it differs from the others
@@ -31,7 +31,7 @@ pub record Sample : Type 0 where
 abbrev pub plain : ℕ → Sample
 plain number = record { label = None; number = number }
 
-abbrev pub labelled : Label → List ℕ → ℕ → Sample
+abbrev pub labelled : SampleLabel → List ℕ → ℕ → Sample
 labelled label value number = record { label = Some (record { label = label; value = value }); number = number }
 
 -- ---- lines
@@ -149,7 +149,7 @@ unkept_samples None = None
 unkept_samples (Some tries) = single tries.unkept
 
 -- the samples of a family, if it is counted
-abbrev pub samples_of : Counts → Family → Option (List Sample)
+abbrev pub samples_of : GatewayCounts → Family → Option (List Sample)
 samples_of c family.Build = Some build_samples
 samples_of c family.Ticks = single c.ticks
 samples_of c family.Received = single c.received
@@ -185,11 +185,11 @@ abbrev pub family_lines : Family → Option (List Sample) → List Line
 family_lines f None = []
 family_lines f (Some samples) = Help f ∷ KindOf f ∷ map (Count f) samples
 
-abbrev pub metrics_lines : Counts → List Line
+abbrev pub metrics_lines : GatewayCounts → List Line
 metrics_lines c = flat_map (λ f. family_lines f (samples_of c f)) families
 
-abbrev pub family_text : Counts → Family → List ℕ
+abbrev pub family_text : GatewayCounts → Family → List ℕ
 family_text c f = lines_text (family_lines f (samples_of c f))
 
-abbrev pub metrics_text : Counts → List ℕ
+abbrev pub metrics_text : GatewayCounts → List ℕ
 metrics_text c = flat_map (family_text c) families

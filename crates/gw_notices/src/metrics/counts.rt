@@ -56,7 +56,7 @@ pub struct PortCounts {
 
 /// What is written of a gateway at a moment. What was done is counted from some moment on, such as the start of the program.
 #[derive(Clone, Copy)]
-pub struct Counts<'a> {
+pub struct GatewayCounts<'a> {
     /// How many ticks were taken, which are seconds.
     pub ticks: u64,
     /// How many datagrams came to the ports.

@@ -64,7 +64,7 @@ pub enum Family {
 
 /// How the number of a family changes.
 #[derive(Clone, Copy)]
-pub enum Kind {
+pub enum FamilyKind {
     /// It only grows, or begins anew from 0.
     Counter,
     /// It grows and falls.
@@ -73,7 +73,7 @@ pub enum Kind {
 
 /// What the samples of a family are told apart by.
 #[derive(Clone, Copy)]
-pub enum Label {
+pub enum SampleLabel {
     /// The version of the program.
     Version,
     /// Why a datagram wasn't passed on.
@@ -90,31 +90,31 @@ pub enum Label {
     Sha256,
 }
 
-impl Kind {
+impl FamilyKind {
     /// Its name in the format.
     pub fn name(self) -> &'static str
         ensures { result.now ≡ kind_name self }
     {
         match self {
-            Kind::Counter => "counter",
-            Kind::Gauge => "gauge",
+            FamilyKind::Counter => "counter",
+            FamilyKind::Gauge => "gauge",
         }
     }
 }
 
-impl Label {
+impl SampleLabel {
     /// Its name in the format.
     pub fn name(self) -> &'static str
         ensures { result.now ≡ label_name self }
     {
         match self {
-            Label::Version => "version",
-            Label::Reason => "reason",
-            Label::Rule => "rule",
-            Label::Port => "port",
-            Label::Outcome => "outcome",
-            Label::Log => "log",
-            Label::Sha256 => "sha256",
+            SampleLabel::Version => "version",
+            SampleLabel::Reason => "reason",
+            SampleLabel::Rule => "rule",
+            SampleLabel::Port => "port",
+            SampleLabel::Outcome => "outcome",
+            SampleLabel::Log => "log",
+            SampleLabel::Sha256 => "sha256",
         }
     }
 }
@@ -187,7 +187,7 @@ impl Family {
     }
 
     /// How its number changes.
-    pub fn kind(self) -> Kind
+    pub fn kind(self) -> FamilyKind
         ensures { result ≡ family_kind self }
     {
         match self {
@@ -197,8 +197,8 @@ impl Family {
             | Family::LearnedRoutes
             | Family::Configuration
             | Family::ConfigurationAge
-            | Family::StateIsKept => Kind::Gauge,
-            _ => Kind::Counter,
+            | Family::StateIsKept => FamilyKind::Gauge,
+            _ => FamilyKind::Counter,
         }
     }
 

@@ -5,7 +5,7 @@ ghost use Rattle.gw_notices.specs.metrics.Text.{metrics_text};
 ghost use Rattle.gw_wire.specs.Store.{Holds};
 ghost use Rattle.gw_notices.specs.metrics.Writing.{IsTried, Tries, WritesAtTick, is_due, nothing_written};
 
-use crate::metrics::{Counts, put_metrics};
+use crate::metrics::{GatewayCounts, put_metrics};
 use gw_wire::{Store, StoreFault};
 use std::alloc::Global;
 use std::marker::Model;
@@ -32,7 +32,7 @@ impl<S: Store + Drop> Model for Metrics<S> {
 }
 
 /// Puts the text of metrics into a store. `Memory` if a growth was refused; the store then wasn't asked.
-fn put<S: Store>(alloc: Global, store: &mut S, counts: &Counts<'_>) -> Result<(), StoreFault>
+fn put<S: Store>(alloc: Global, store: &mut S, counts: &GatewayCounts<'_>) -> Result<(), StoreFault>
     ensures ok { OnOk result (Holds (S.held store.new) (metrics_text counts.now)) }
     ensures err { OnErr result
         ((S.held store.new ≡ S.held store.old) ⊎ Holds (S.held store.new) (metrics_text counts.now)) }
@@ -69,7 +69,7 @@ impl<S: Store + Drop> Metrics<S> {
 
     /// Replaces the text at a tick, of which this is the number, if one is due. If that fails it is counted, and tried
     /// again when the next text is due.
-    pub fn at_tick(&mut self, alloc: Global, ticks: u64, counts: &Counts<'_>)
+    pub fn at_tick(&mut self, alloc: Global, ticks: u64, counts: &GatewayCounts<'_>)
         ensures { WritesAtTick S.held self.old ticks (metrics_text counts.now) self.new }
     {
         if self.is_due(ticks) {
@@ -78,7 +78,7 @@ impl<S: Store + Drop> Metrics<S> {
     }
 
     /// Replaces the text at a tick, of which this is the number, whether one is due or not.
-    pub fn put_now(&mut self, alloc: Global, ticks: u64, counts: &Counts<'_>)
+    pub fn put_now(&mut self, alloc: Global, ticks: u64, counts: &GatewayCounts<'_>)
         ensures { IsTried S.held self.old ticks (metrics_text counts.now) self.new }
     {
         self.try_at(alloc, ticks, counts);
@@ -106,7 +106,7 @@ impl<S: Store + Drop> Metrics<S> {
     }
 
     /// Tries to replace the text, and says whether that succeeded.
-    fn try_at(&mut self, alloc: Global, ticks: u64, counts: &Counts<'_>) -> bool
+    fn try_at(&mut self, alloc: Global, ticks: u64, counts: &GatewayCounts<'_>) -> bool
         ensures { Tries S.held self.old ticks (metrics_text counts.now) self.new result }
     {
         self.last = Some(ticks);

@@ -7,9 +7,9 @@ ghost use Rattle.gw_notices.specs.metrics.Family.{families};
 ghost use Rattle.gw_notices.specs.metrics.Text.{Count, Help, KindOf, build_samples, configuration_samples, decided_samples, decision_samples, drop_samples, family_lines, family_text, full_line, kept_samples, labelled, label_text, lines_text, lost_samples, metrics_text, number_if, plain, port_line, port_number, port_samples, reload_samples, rule_line, single, unkept_samples};
 
 use crate::checksum::Checksum;
-use crate::metrics::counts::{Counts, Drops, PortCounts, Reloads, StateTries};
+use crate::metrics::counts::{Drops, GatewayCounts, PortCounts, Reloads, StateTries};
 use crate::metrics::escape::put_escaped;
-use crate::metrics::family::{Family, Label};
+use crate::metrics::family::{Family, SampleLabel};
 use gw_addr::{keep_whole, put_decimal, put_slice};
 use gw_decisions::tally::Tally;
 use gw_rules::{Rule, RuleList};
@@ -30,7 +30,11 @@ const VERSION: &str = "0.1.0";
 ///
 /// A family that isn't counted is left out. An `Err` only if a growth of memory was refused: the buffer then holds what it
 /// held.
-pub fn put_metrics(alloc: Global, counts: &Counts<'_>, out: &mut Vec<u8>) -> Result<(), AllocError>
+pub fn put_metrics(
+    alloc: Global,
+    counts: &GatewayCounts<'_>,
+    out: &mut Vec<u8>,
+) -> Result<(), AllocError>
     ensures ok { OnOk result (out.new.items ≡ out.old.items ++ metrics_text counts.now) }
     ensures err { OnErr result (out.new.items ≡ out.old.items) }
 {
@@ -41,7 +45,7 @@ pub fn put_metrics(alloc: Global, counts: &Counts<'_>, out: &mut Vec<u8>) -> Res
 }
 
 /// The text of all families.
-fn make_text(alloc: Global, counts: &Counts<'_>) -> Result<Vec<u8>, AllocError>
+fn make_text(alloc: Global, counts: &GatewayCounts<'_>) -> Result<Vec<u8>, AllocError>
     ensures { IfOk result (λ text. text.items ≡ metrics_text counts.now) }
 {
     let mut text = Vec::new(alloc);
@@ -52,7 +56,7 @@ fn make_text(alloc: Global, counts: &Counts<'_>) -> Result<Vec<u8>, AllocError>
 fn put_families(
     alloc: Global,
     families: &[Family],
-    counts: &Counts<'_>,
+    counts: &GatewayCounts<'_>,
     out: &mut Vec<u8>,
 ) -> Result<(), AllocError>
     ensures { OnOk result (out.new.items ≡ out.old.items ++ flat_map (family_text counts.now) families.now) }
@@ -67,7 +71,7 @@ fn put_families(
 fn put_family(
     alloc: Global,
     family: Family,
-    counts: &Counts<'_>,
+    counts: &GatewayCounts<'_>,
     out: &mut Vec<u8>,
 ) -> Result<(), AllocError>
     ensures { OnOk result (out.new.items ≡ out.old.items ++ family_text counts.now family) }
@@ -154,7 +158,7 @@ fn put_plain(family: Family, number: u128, out: &mut Vec<u8>) -> Result<(), Allo
 }
 
 /// Appends a label and its value.
-fn put_label(label: Label, value: &[u8], out: &mut Vec<u8>) -> Result<(), AllocError>
+fn put_label(label: SampleLabel, value: &[u8], out: &mut Vec<u8>) -> Result<(), AllocError>
     ensures { OnOk result (out.new.items ≡ out.old.items ++ label_text (Some (record { label = label; value = value.now }))) }
 {
     put_slice(out, b"{")?;
@@ -168,7 +172,7 @@ fn put_label(label: Label, value: &[u8], out: &mut Vec<u8>) -> Result<(), AllocE
 #[tactic(auto, unfolding(crate::specs::metrics::Text::full_line))]
 fn put_labelled(
     family: Family,
-    label: Label,
+    label: SampleLabel,
     value: &[u8],
     number: u128,
     out: &mut Vec<u8>,
@@ -183,7 +187,7 @@ fn put_labelled(
 /// Appends a sample that counts what has a label of this value.
 fn put_counted(
     family: Family,
-    label: Label,
+    label: SampleLabel,
     value: &str,
     number: u64,
     out: &mut Vec<u8>,
@@ -205,13 +209,19 @@ fn put_build(out: &mut Vec<u8>) -> Result<(), AllocError>
     ensures { OnOk result (out.new.items ≡ out.old.items ++ lines_text (family_lines Family.Build (Some build_samples))) }
 {
     put_head(Family::Build, out)?;
-    put_labelled(Family::Build, Label::Version, VERSION.as_bytes(), 1, out)
+    put_labelled(
+        Family::Build,
+        SampleLabel::Version,
+        VERSION.as_bytes(),
+        1,
+        out,
+    )
 }
 
 fn put_drops(drops: Drops, out: &mut Vec<u8>) -> Result<(), AllocError>
     ensures { OnOk result (out.new.items ≡ out.old.items ++ lines_text (family_lines Family.Drops (Some (drop_samples drops)))) }
 {
-    let (family, label) = (Family::Drops, Label::Reason);
+    let (family, label) = (Family::Drops, SampleLabel::Reason);
     put_head(family, out)?;
     put_counted(family, label, "enter", drops.enter, out)?;
     put_counted(family, label, "claim", drops.claim, out)?;
@@ -244,7 +254,7 @@ fn put_decided(rules: &[Rule], counts: &Tally, out: &mut Vec<u8>) -> Result<(), 
     put_head(Family::Decisions, out)?;
     put_counted(
         Family::Decisions,
-        Label::Rule,
+        SampleLabel::Rule,
         "default",
         counts.count(0),
         out,
@@ -259,7 +269,7 @@ fn put_rules(rules: &[Rule], counts: &Tally, out: &mut Vec<u8>) -> Result<(), Al
     for place in 0..rules.len() {
         let name = rules[place].name.as_str();
         let count = counts.count(place + 1);
-        put_counted(Family::Decisions, Label::Rule, name, count, out)?;
+        put_counted(Family::Decisions, SampleLabel::Rule, name, count, out)?;
     }
     Ok(())
 }
@@ -304,7 +314,7 @@ fn put_port(
 {
     put_labelled(
         family,
-        Label::Port,
+        SampleLabel::Port,
         Buffer::new().format(number).as_bytes(),
         u128::from(port_number(family, port)),
         out,
@@ -315,7 +325,7 @@ fn put_reloads(reloads: Reloads, out: &mut Vec<u8>) -> Result<(), AllocError>
     ensures { OnOk result (out.new.items ≡ out.old.items
         ++ lines_text (family_lines Family.Reloads (Some (reload_samples reloads)))) }
 {
-    let (family, label) = (Family::Reloads, Label::Outcome);
+    let (family, label) = (Family::Reloads, SampleLabel::Outcome);
     put_head(family, out)?;
     put_counted(family, label, "taken_over", reloads.taken_over, out)?;
     put_counted(family, label, "refused", reloads.refused, out)
@@ -330,7 +340,7 @@ fn put_configuration(alloc: Global, checksum: Checksum, out: &mut Vec<u8>) -> Re
     put_head(Family::Configuration, out)?;
     put_labelled(
         Family::Configuration,
-        Label::Sha256,
+        SampleLabel::Sha256,
         digits.as_bytes(),
         1,
         out,
@@ -365,7 +375,7 @@ fn put_lost_lines(trial: u64, audit: u64, out: &mut Vec<u8>) -> Result<(), Alloc
     ensures { OnOk result (out.new.items ≡ out.old.items
         ++ lines_text (family_lines Family.LostLines (Some (lost_samples trial audit)))) }
 {
-    let (family, label) = (Family::LostLines, Label::Log);
+    let (family, label) = (Family::LostLines, SampleLabel::Log);
     put_head(family, out)?;
     put_counted(family, label, "trial", trial, out)?;
     put_counted(family, label, "audit", audit, out)

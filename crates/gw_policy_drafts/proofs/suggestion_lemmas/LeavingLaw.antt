@@ -17,7 +17,7 @@ use Rattle.gw_policy_drafts.specs.suggestion.Laws.{LeavesNoneOut}
 use Rattle.gw_policy_drafts.specs.suggestion.Suggestion.{BreaksNone, Breaks, HasInFront, IsBreaking, IsFound, IsLeftOut, StaysSuggested, broken_by, left_of, matched}
 use Rattle.gw_policy_drafts.specs.suggestion.Text.{rules_of}
 use Rattle.gw_policy_drafts.specs.declared.suggestion.leaving.Breaking.{Breaking}
-use Rattle.gw_policy_drafts.specs.declared.suggestion.leaving.Left.{Left}
+use Rattle.gw_policy_drafts.specs.declared.suggestion.leaving.LeftOut.{LeftOut}
 
 some_is : {A : Type 0} (x y : A) → Some x ≡ Some y → x ≡ y
 some_is x y e = cc
@@ -127,11 +127,11 @@ all_moved test (r ∷ kept) (suc place) rule left e all =
     let parts = and_parts (test r) (list_all test (kept ++ left)) all in
     and_from (test r) (list_all test (remove kept place ++ (left ++ rule ∷ []))) parts.0 (all_moved test kept place rule left e parts.1)
 
-rules_grown : (left : List Left) (one : Left) → rules_of (left ++ one ∷ []) ≡ rules_of left ++ one.rule ∷ []
+rules_grown : (left : List LeftOut) (one : LeftOut) → rules_of (left ++ one ∷ []) ≡ rules_of left ++ one.rule ∷ []
 rules_grown [] one = refl
 rules_grown (l ∷ left) one = ap (λ (rs : List Rule). l.rule ∷ rs) (rules_grown left one)
 
-stays : (kept kept_then : List Rule) (left left_then : List Left) (found : Breaking) → kept_then ≡ remove kept found.rule
+stays : (kept kept_then : List Rule) (left left_then : List LeftOut) (found : Breaking) → kept_then ≡ remove kept found.rule
     → IsLeftOut kept left found left_then → StaysSuggested kept left kept_then left_then
 stays kept kept_then left left_then found less out keeps asks is =
     let one = left_of out.rule found in
@@ -148,7 +148,7 @@ stays kept kept_then left left_then found less out keeps asks is =
     }
 
 -- the rule that is taken from its place is left out
-pub left_out : (kept : List Rule) (before after : List Left) (found : Breaking) (rule : Rule) → found.rule < length kept
+pub left_out : (kept : List Rule) (before after : List LeftOut) (found : Breaking) (rule : Rule) → found.rule < length kept
     → rule ≡ slice_index_or kept found.rule rule → after ≡ before ++ left_of rule found ∷ [] → IsLeftOut kept before found after
 left_out kept before after found rule within taken grown = record {
   rule = rule;
@@ -156,7 +156,7 @@ left_out kept before after found rule within taken grown = record {
   grown = grown;
 }
 
-pub stays_out : (kept kept_then : List Rule) (before after : List Left) (found : Breaking) (rule : Rule) → found.rule < length kept
+pub stays_out : (kept kept_then : List Rule) (before after : List LeftOut) (found : Breaking) (rule : Rule) → found.rule < length kept
     → rule ≡ slice_index_or kept found.rule rule → kept_then ≡ remove kept found.rule → after ≡ before ++ left_of rule found ∷ []
     → StaysSuggested kept before kept_then after
 stays_out kept kept_then before after found rule within taken less grown =
@@ -168,7 +168,7 @@ all_pushed : {A : Type 0} (P : A → Type 0) (xs : List A) (x : A) → AllByRecu
 all_pushed P [] x all here = (here, tt)
 all_pushed P (y ∷ xs) x all here = (all.0, all_pushed P xs x all.1 here)
 
-pub breaks_more : (old c : Configuration) (kept : List Rule) (left left_then : List Left) (found : Breaking) → HasInFront old kept c
+pub breaks_more : (old c : Configuration) (kept : List Rule) (left left_then : List LeftOut) (found : Breaking) → HasInFront old kept c
     → IsBreaking c (length kept) found → IsLeftOut kept left found left_then → AllByRecursion (Breaks old) left → AllByRecursion (Breaks old) left_then
 breaks_more old c kept left left_then found has is out all =
     let one = left_of out.rule found in
@@ -187,7 +187,7 @@ breaks_more old c kept left left_then found has is out all =
 pub leaves_none_out : LeavesNoneOut
 leaves_none_out old text manner asks added is none = by is.left is.breaking
   where
-    by : (left : List Left) → AllByRecursion (Breaks old) left → left ≡ []
+    by : (left : List LeftOut) → AllByRecursion (Breaks old) left → left ≡ []
     by [] all = refl
     by (l ∷ left) all =
         let one = all.0 in

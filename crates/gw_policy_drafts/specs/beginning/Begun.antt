@@ -23,19 +23,19 @@ use Rattle.gw_policy_drafts.specs.beginning.Site.{Says, Site, SiteText, words_in
 use Rattle.gw_policy_drafts.specs.declared.beginning.fault.BeginFault.{BeginFault}
 use Rattle.gw_policy_drafts.specs.declared.beginning.fault.BeginFault.TheVariants as fault
 use Rattle.gw_policy_drafts.specs.declared.beginning.fault.Flaw.TheVariants as flaw
-use Rattle.gw_policy_drafts.specs.declared.beginning.part.Part.{Part}
+use Rattle.gw_policy_drafts.specs.declared.beginning.part.SitePart.{SitePart}
 
 -- ---- the configuration
 
 -- the key of a station is that of an operator's
-abbrev pub key_of : Part → ℕ
+abbrev pub key_of : SitePart → ℕ
 key_of part = big_endian (octets_of (address_of part))
 
-abbrev pub is_operator : List Part → ℕ → Bool
+abbrev pub is_operator : List SitePart → ℕ → Bool
 is_operator operators key = list_any (λ operator. key_of operator == key) operators
 
 -- an ask comes from an operator's station
-abbrev pub is_operators : List Part → Ask → Bool
+abbrev pub is_operators : List SitePart → Ask → Bool
 is_operators operators ask = option_map_or (is_operator operators) ask.sender false
 
 -- what nobody may do: register, delete a registration, see or change a table, teach a route, be heard as a stranger, and speak for a

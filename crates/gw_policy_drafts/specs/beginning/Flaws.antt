@@ -9,27 +9,27 @@ use Rattle.gw_policy_drafts.specs.beginning.Site.{Site, SiteText, parts_in, word
 use Rattle.gw_policy_drafts.specs.declared.beginning.fault.Flaw.{Flaw}
 use Rattle.gw_policy_drafts.specs.declared.beginning.fault.Flaw.TheVariants as flaw
 use Rattle.gw_policy_drafts.specs.declared.beginning.fault.WrongWord.{WrongWord}
-use Rattle.gw_policy_drafts.specs.declared.beginning.part.Part.{Part}
+use Rattle.gw_policy_drafts.specs.declared.beginning.part.SitePart.{SitePart}
 use Rattle.gw_policy_drafts.specs.declared.beginning.part.SiteOption.{SiteOption}
 use Rattle.gw_policy_drafts.specs.declared.beginning.part.SiteOption.TheVariants as option
 
 -- ---- what a part has
 
 -- a prefix of 8 to 30 bits
-abbrev pub is_subnet : Part → Bool
+abbrev pub is_subnet : SitePart → Bool
 is_subnet part = nat_le 8 part.prefix && nat_le part.prefix 30
 
-abbrev pub overlaps_one : Part → List Part → Bool
+abbrev pub overlaps_one : SitePart → List SitePart → Bool
 overlaps_one part parts = list_any (λ other. overlaps part other) parts
 
-abbrev pub is_given : ℕ → List Part → Bool
+abbrev pub is_given : ℕ → List SitePart → Bool
 is_given number parts = list_any (λ other. other.number == number) parts
 
 -- one of these subnets has its address
-abbrev pub is_station : Part → List Part → Bool
+abbrev pub is_station : SitePart → List SitePart → Bool
 is_station part parts = list_any (λ other. has_station (host_of part) other) parts
 
-abbrev pub is_named : Part → List Part → Bool
+abbrev pub is_named : SitePart → List SitePart → Bool
 is_named part parts = list_any (λ other. host_of other == host_of part) parts
 
 -- a port's number
@@ -37,25 +37,25 @@ abbrev pub is_port : Site → ℕ → Bool
 is_port s number = nat_le 1 number && nat_le number (length s.ports)
 
 -- the address of a station of one of these ports, which is none of theirs
-abbrev pub is_beside : Part → List Part → Bool
+abbrev pub is_beside : SitePart → List SitePart → Bool
 is_beside part ports = is_station part ports && not (is_named part ports)
 
 -- the address of a station of the port of its number, which isn't the port's own
-abbrev pub is_at : Part → Part → Bool
+abbrev pub is_at : SitePart → SitePart → Bool
 is_at part port = has_station (host_of part) port && not (host_of port == host_of part)
 
-abbrev pub is_at_port : Site → Part → Bool
+abbrev pub is_at_port : Site → SitePart → Bool
 is_at_port s part = option_map_or (is_at part) (slice_get s.ports (part.number - 1)) false
 
 -- it names no UDP port, while the port does whose subnet has its address; or, of a peer, whose number it has
-abbrev pub lacks_udp : Part → List Part → Bool
+abbrev pub lacks_udp : SitePart → List SitePart → Bool
 lacks_udp part ports = is_none part.udp && list_any (λ port. is_some port.udp && has_station (host_of part) port) ports
 
-abbrev pub lacks_udp_of : Site → Part → Bool
+abbrev pub lacks_udp_of : Site → SitePart → Bool
 lacks_udp_of s part = option_map_or (λ port. is_none part.udp && is_some port.udp) (slice_get s.ports (part.number - 1)) false
 
 -- those of a number
-abbrev pub of_number : ℕ → List Part → List Part
+abbrev pub of_number : ℕ → List SitePart → List SitePart
 of_number number parts = filter (λ part. part.number == number) parts
 
 -- ---- the flaws of a part, which comes after these parts of its option
@@ -63,7 +63,7 @@ of_number number parts = filter (λ part. part.number == number) parts
 abbrev pub first_flaw : List (Bool × Flaw) → Option Flaw
 first_flaw flaws = option_map (λ f. f.1) (find (λ f. f.0) flaws)
 
-unfoldable pub port_flaw : Site → (before : List Part) → Part → Option Flaw
+unfoldable pub port_flaw : Site → (before : List SitePart) → SitePart → Option Flaw
 port_flaw s before part = first_flaw (
     (not (is_subnet part), flaw.Prefix)
     ∷ (not (has_station (host_of part) part), flaw.End)
@@ -72,7 +72,7 @@ port_flaw s before part = first_flaw (
     ∷ (length s.ports == 1, flaw.Alone) ∷ [])
 
 -- with 15 peers the stations of a port are 16 subnets, which is the most
-unfoldable pub peer_flaw : Site → (before : List Part) → Part → Option Flaw
+unfoldable pub peer_flaw : Site → (before : List SitePart) → SitePart → Option Flaw
 peer_flaw s before part = first_flaw (
     (not (is_subnet part), flaw.Prefix)
     ∷ (not (has_station (host_of part) part), flaw.End)
@@ -82,25 +82,25 @@ peer_flaw s before part = first_flaw (
     ∷ (nat_le 15 (length (of_number part.number before)), flaw.TooMany) ∷ [])
 
 -- a number is no network's, or that of the gateway's device, a port or another network behind a router
-abbrev pub is_taken : Site → (before : List Part) → ℕ → Bool
+abbrev pub is_taken : Site → (before : List SitePart) → ℕ → Bool
 is_taken s before number =
     (number == 0) || ((number == 65535) || ((number == 100) || (is_port s number || is_given number before)))
 
-unfoldable pub router_flaw : Site → (before : List Part) → Part → Option Flaw
+unfoldable pub router_flaw : Site → (before : List SitePart) → SitePart → Option Flaw
 router_flaw s before part = first_flaw (
     (is_taken s before part.number, flaw.Taken)
     ∷ (not (is_beside part s.ports), flaw.NoPort)
     ∷ (lacks_udp part s.ports, flaw.Udp)
     ∷ (nat_le 32 (length before), flaw.TooMany) ∷ [])
 
-unfoldable pub operator_flaw : Site → (before : List Part) → Part → Option Flaw
+unfoldable pub operator_flaw : Site → (before : List SitePart) → SitePart → Option Flaw
 operator_flaw s before part = first_flaw (
     (not (is_station part s.ports) && not (is_station part s.peers), flaw.NoPort)
     ∷ (lacks_udp part s.ports, flaw.Udp)
     ∷ (is_named part before, flaw.Taken)
     ∷ (nat_le 32 (length before), flaw.TooMany) ∷ [])
 
-unfoldable pub manager_flaw : Site → (before : List Part) → Part → Option Flaw
+unfoldable pub manager_flaw : Site → (before : List SitePart) → SitePart → Option Flaw
 manager_flaw s before part = first_flaw (
     (not (is_port s part.number), flaw.NoPort)
     ∷ (not (is_at_port s part), flaw.NoPort)
@@ -108,7 +108,7 @@ manager_flaw s before part = first_flaw (
     ∷ (is_given part.number before, flaw.Taken)
     ∷ (is_given part.number s.peers, flaw.HasPeers) ∷ [])
 
-abbrev pub flaw_of : Site → SiteOption → (before : List Part) → Part → Option Flaw
+abbrev pub flaw_of : Site → SiteOption → (before : List SitePart) → SitePart → Option Flaw
 flaw_of s option.Port before part = port_flaw s before part
 flaw_of s option.Peer before part = peer_flaw s before part
 flaw_of s option.Router before part = router_flaw s before part
@@ -125,7 +125,7 @@ wrong_or (Some f) option place later = Some (wrong option place f)
 wrong_or None option place later = later
 
 -- of an option, of whose parts these come before
-unfoldable pub wrong_from : Site → SiteOption → (before parts : List Part) → Option WrongWord
+unfoldable pub wrong_from : Site → SiteOption → (before parts : List SitePart) → Option WrongWord
 wrong_from s option before [] = None
 wrong_from s option before (part ∷ parts) =
     wrong_or (flaw_of s option before part) option (length before) (wrong_from s option (before ++ part ∷ []) parts)

@@ -2,7 +2,7 @@
 use Rattle.std.specs.Prelude.{ℕ, ◌+◌, ◌-◌, ◌%◌, Bool, true, false, ◌&&◌, nat_le, nat_lt, if◌then◌else◌, List, [], ◌++◌, codes, decimal, Option, Some, None}
 use Rattle.std.specs.Int.{from_be_bytes, w32}
 use Rattle.gw_addr.specs.Text.{four_text}
-use Rattle.gw_policy_drafts.specs.declared.beginning.part.Part.{Part}
+use Rattle.gw_policy_drafts.specs.declared.beginning.part.SitePart.{SitePart}
 use Rattle.gw_policy_drafts.specs.declared.beginning.part.SiteOption.{SiteOption}
 use Rattle.gw_policy_drafts.specs.declared.beginning.part.SiteOption.TheVariants as option
 use Rattle.gw_policy_drafts.specs.migration.Items.{size_of}
@@ -41,27 +41,27 @@ abbrev pub udp_text : Option ℕ → List ℕ
 udp_text (Some udp) = codes ":" ++ decimal udp
 udp_text None = []
 
-unfoldable pub word_of : SiteOption → Part → List ℕ
+unfoldable pub word_of : SiteOption → SitePart → List ℕ
 word_of option part =
     number_text (is_numbered option) part.number ++ (four_text part.ip ++ (prefix_text (has_prefix option) part.prefix ++ udp_text part.udp))
 
 -- ---- the subnet
 
 -- the address as a number
-abbrev pub host_of : Part → ℕ
+abbrev pub host_of : SitePart → ℕ
 host_of part = from_be_bytes w32 part.ip
 
 -- the first address of the subnet, and the last, to which its broadcasts go
-abbrev pub first_of : Part → ℕ
+abbrev pub first_of : SitePart → ℕ
 first_of part = host_of part - host_of part % size_of part.prefix
 
-abbrev pub last_of : Part → ℕ
+abbrev pub last_of : SitePart → ℕ
 last_of part = first_of part + (size_of part.prefix - 1)
 
 -- it has an address that a station may have
-abbrev pub has_station : ℕ → Part → Bool
+abbrev pub has_station : ℕ → SitePart → Bool
 has_station host part = nat_lt (first_of part) host && nat_lt host (last_of part)
 
 -- two subnets share an address
-abbrev pub overlaps : Part → Part → Bool
+abbrev pub overlaps : SitePart → SitePart → Bool
 overlaps part other = nat_le (first_of part) (last_of other) && nat_le (first_of other) (last_of part)

@@ -1,11 +1,11 @@
 -- What a site has, as the words of a call say.
 use Rattle.std.specs.Prelude.{◌≡◌, ℕ, List, map, string_bytes}
 use Rattle.gw_policy_drafts.specs.beginning.Part.{word_of}
-use Rattle.gw_policy_drafts.specs.declared.beginning.part.Part.{Part}
+use Rattle.gw_policy_drafts.specs.declared.beginning.part.SitePart.{SitePart}
 use Rattle.gw_policy_drafts.specs.declared.beginning.part.SiteOption.{SiteOption}
 use Rattle.gw_policy_drafts.specs.declared.beginning.part.SiteOption.TheVariants as option
 use Rattle.gw_policy_drafts.specs.declared.beginning.site.Site.{Site as Held}
-use Rattle.gw_policy_drafts.specs.declared.beginning.site.Words.{Words}
+use Rattle.gw_policy_drafts.specs.declared.beginning.site.SiteInWords.{SiteInWords}
 
 -- the words of a call, by their options
 pub record SiteText : Type 0 where
@@ -15,7 +15,7 @@ pub record SiteText : Type 0 where
   pub operators : List (List ℕ)
   pub managers : List (List ℕ)
 
-abbrev pub site_text : Words → SiteText
+abbrev pub site_text : SiteInWords → SiteText
 site_text words = record {
   ports = map string_bytes words.ports.now;
   peers = map string_bytes words.peers.now;
@@ -35,11 +35,11 @@ words_in text option.Manager = text.managers
 -- what they say: the ports in order, other broadcast managers, networks behind routers, stations that may write, and the broadcast
 -- managers that subnets have already
 pub record Site : Type 0 where
-  pub ports : List Part
-  pub peers : List Part
-  pub routers : List Part
-  pub operators : List Part
-  pub managers : List Part
+  pub ports : List SitePart
+  pub peers : List SitePart
+  pub routers : List SitePart
+  pub operators : List SitePart
+  pub managers : List SitePart
 
 abbrev pub site_of : Held → Site
 site_of held = record {
@@ -50,7 +50,7 @@ site_of held = record {
   managers = held.managers.items;
 }
 
-abbrev pub parts_in : Site → SiteOption → List Part
+abbrev pub parts_in : Site → SiteOption → List SitePart
 parts_in s option.Port = s.ports
 parts_in s option.Peer = s.peers
 parts_in s option.Router = s.routers

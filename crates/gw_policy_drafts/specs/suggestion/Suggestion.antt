@@ -18,7 +18,7 @@ use Rattle.gw_policy_drafts.specs.suggestion.Lines.{AreSeen}
 use Rattle.gw_policy_drafts.specs.suggestion.Own.{own_rule}
 use Rattle.gw_policy_drafts.specs.suggestion.Text.{IsTextOf, place_of, rules_of}
 use Rattle.gw_policy_drafts.specs.declared.suggestion.leaving.Breaking.{Breaking}
-use Rattle.gw_policy_drafts.specs.declared.suggestion.leaving.Left.{Left}
+use Rattle.gw_policy_drafts.specs.declared.suggestion.leaving.LeftOut.{LeftOut}
 use Rattle.gw_policy_drafts.specs.declared.suggestion.fault.SuggestFault.{SuggestFault}
 use Rattle.gw_policy_drafts.specs.declared.suggestion.fault.SuggestFault.TheVariants.{Write}
 use Rattle.gw_policy_drafts.specs.declared.suggestion.suggestion.Manner.{Manner}
@@ -106,26 +106,26 @@ pub record IsFound (judged : List Judged) (count : ℕ) (found : Breaking) : Typ
   pub by : broken_by count one ≡ Some found.rule
 
 -- a rule that is left out for the assertion that it was found to break
-abbrev pub left_of : Rule → Breaking → Left
+abbrev pub left_of : Rule → Breaking → LeftOut
 left_of rule found = record { rule = rule; assertion = found.assertion }
 
 -- the rule that was found is left out after others
-pub record IsLeftOut (kept : List Rule) (before : List Left) (found : Breaking) (after : List Left) : Type 0 where
+pub record IsLeftOut (kept : List Rule) (before : List LeftOut) (found : Breaking) (after : List LeftOut) : Type 0 where
   pub rule : Rule
   pub is : slice_get kept found.rule ≡ Some rule
   pub grown : after ≡ before ++ left_of rule found ∷ []
 
 -- what is suggested stays so, those that are left out with the others
-abbrev pub StaysSuggested : (kept : List Rule) → (left : List Left) → (kept_then : List Rule) → (left_then : List Left) → Type 0
+abbrev pub StaysSuggested : (kept : List Rule) → (left : List LeftOut) → (kept_then : List Rule) → (left_then : List LeftOut) → Type 0
 StaysSuggested kept left kept_then left_then =
     (keeps : Bool) (asks : List Ask) → IsSuggestion keeps asks (kept ++ rules_of left) → IsSuggestion keeps asks (kept_then ++ rules_of left_then)
 
 -- where a rule stands, and the assertion for which it is left out
-abbrev pub found_at : ℕ → Left → Breaking
+abbrev pub found_at : ℕ → LeftOut → Breaking
 found_at place left = record { rule = place; assertion = left.assertion }
 
 -- a rule that is left out: with some rules in front of the configuration, of which it is one, it breaks the assertion
-pub record Breaks (old : Configuration) (left : Left) : Type 0 where
+pub record Breaks (old : Configuration) (left : LeftOut) : Type 0 where
   pub tried : List Rule
   pub configured : Configuration
   pub in_front : HasInFront old tried configured
@@ -138,7 +138,7 @@ pub record Breaks (old : Configuration) (left : Left) : Type 0 where
 -- fields they lack, and which assertion a rule would break.
 pub record IsAdded (old : Configuration) (text : List ℕ) (manner : Manner) (asks : List Ask) (added : List ℕ) : Type 0 where
   pub kept : List Rule
-  pub left : List Left
+  pub left : List LeftOut
   pub suggestion : IsSuggestion manner.keeps_services (wanted manner asks) (kept ++ rules_of left)
   pub configured : Configuration
   pub in_front : IsInFront old text kept added configured

@@ -22,8 +22,8 @@ use Rattle.gw_rules.specs.declared.rule.Rule.{Rule}
 use Rattle.gw_policy_drafts.specs.migration.Items.{field_line, field_text, operation_text, quoted_station}
 use Rattle.gw_policy_drafts.specs.suggestion.Given.{is_open}
 use Rattle.gw_policy_drafts.specs.declared.suggestion.given.Weighted.{Weighted}
-use Rattle.gw_policy_drafts.specs.declared.suggestion.leaving.Left.{Left}
-use Rattle.gw_policy_drafts.specs.declared.suggestion.text.Place.{Place}
+use Rattle.gw_policy_drafts.specs.declared.suggestion.leaving.LeftOut.{LeftOut}
+use Rattle.gw_policy_drafts.specs.declared.suggestion.text.DraftSite.{DraftSite}
 
 -- ---- counts
 
@@ -57,13 +57,13 @@ abbrev pub is_traffic : Rule → Bool
 is_traffic rule = is_for rule Cast || is_for rule Route
 
 -- an ask that is passed on, or deletes a registration, may name a station, under the third format
-abbrev pub may_name_station : Place → Rule → Bool
+abbrev pub may_name_station : DraftSite → Rule → Bool
 may_name_station place rule =
     names_stations place.format
     && (is_traffic rule || (is_for rule Delete || (is_request rule && not (is_own place.network rule))))
 
 -- others of its operations have the field
-abbrev pub matters : Place → Rule → FieldName → Bool
+abbrev pub matters : DraftSite → Rule → FieldName → Bool
 matters place rule fields.DestinationNetwork = is_traffic rule || is_request rule
 matters place rule fields.ObjectType = is_request rule
 matters place rule fields.Instance = is_request rule
@@ -76,7 +76,7 @@ unfoldable pub any_line : FieldName → List ℕ
 any_line field = codes "# no " ++ (field_key field ++ codes ": any is allowed\n")
 
 -- of a field that the rule doesn't name, and others of its operations have
-unfoldable pub note_line : Place → Rule → FieldName → List ℕ
+unfoldable pub note_line : DraftSite → Rule → FieldName → List ℕ
 note_line place rule field =
     if (length (ranges_of field rule) == 0) && matters place rule field then any_line field else []
 
@@ -90,7 +90,7 @@ unnamed_line format =
 unfoldable pub source_line : Format → Rule → List ℕ
 source_line format rule = if length (ranges_of fields.SourceKey rule) == 0 then unnamed_line format else []
 
-abbrev pub notes_text : Place → Rule → List ℕ
+abbrev pub notes_text : DraftSite → Rule → List ℕ
 notes_text place rule = source_line place.format rule ++ flat_map (note_line place rule) ALL
 
 -- how many asks the rule is for
@@ -132,13 +132,13 @@ unfoldable pub table_text : Format → Rule → List ℕ
 table_text format rule =
     codes "[[rule]]\nname = \"" ++ (rule.name ++ (codes "\"\nallow = true\n" ++ (flat_map (ranges_line format rule) ALL ++ 10 ∷ [])))
 
-unfoldable pub rule_text : Place → List Weighted → Rule → List ℕ
+unfoldable pub rule_text : DraftSite → List Weighted → Rule → List ℕ
 rule_text place asks rule = asks_line rule asks ++ (notes_text place rule ++ table_text place.format rule)
 
 -- ---- the rules that are left out
 
 -- the rules that are left out, each for an assertion
-abbrev pub rules_of : List Left → List Rule
+abbrev pub rules_of : List LeftOut → List Rule
 rules_of left = map (λ l. l.rule) left
 
 -- the name of the assertion at a place, or nothing
@@ -160,7 +160,7 @@ left_table rule =
 unfoldable pub left_line : List ℕ → List ℕ
 left_line name = codes "# left out, since it would break the assertion \"" ++ (name ++ codes "\"\n")
 
-unfoldable pub left_text : List Assertion → List Weighted → Left → List ℕ
+unfoldable pub left_text : List Assertion → List Weighted → LeftOut → List ℕ
 left_text assertions asks left =
     asks_line left.rule asks ++ (left_line (asserted_name assertions left.assertion) ++ left_table left.rule)
 
@@ -184,7 +184,7 @@ unread_line unread =
     if unread == 0 then []
     else codes "# " ++ (counted_text unread (codes "line shows") (codes "lines show") ++ codes " no ask\n")
 
-unfoldable pub none_line : (kept : List Rule) → List Left → ℕ → List ℕ
+unfoldable pub none_line : (kept : List Rule) → List LeftOut → ℕ → List ℕ
 none_line kept left open_asks =
     if (length kept == 0) && ((length left == 0) && (open_asks == 0)) then codes "# no ask is denied: there is nothing to suggest\n" else []
 
@@ -195,18 +195,18 @@ last_text open_asks apart unread = apart_line apart ++ (open_line open_asks ++ u
 
 -- of these rules for asks that were given so often, of those that are left out, and of so many groups that were left apart
 -- and lines without an ask
-abbrev pub suggestion_text : Place → List Assertion → (kept : List Rule) → List Left → List Weighted → (apart unread : ℕ) → List ℕ
+abbrev pub suggestion_text : DraftSite → List Assertion → (kept : List Rule) → List LeftOut → List Weighted → (apart unread : ℕ) → List ℕ
 suggestion_text place assertions kept left asks apart unread =
     none_line kept left (total is_open asks)
     ++ (flat_map (rule_text place asks) kept
     ++ (flat_map (left_text assertions asks) left ++ last_text (total is_open asks) apart unread))
 
 -- whose rules they are
-abbrev pub place_of : Configuration → Place
+abbrev pub place_of : Configuration → DraftSite
 place_of c = record { format = c.format; network = c.device.network }
 
 -- The text is of these rules and of those that are left out, and its comments are about these asks, each given so often.
-pub record IsTextOf (place : Place) (assertions : List Assertion) (kept : List Rule) (left : List Left) (asks : List Ask) (text : List ℕ) : Type 0 where
+pub record IsTextOf (place : DraftSite) (assertions : List Assertion) (kept : List Rule) (left : List LeftOut) (asks : List Ask) (text : List ℕ) : Type 0 where
   pub weighted : List Weighted
   pub are_asks : map (λ each. each.ask) weighted ≡ asks
   pub apart : ℕ

@@ -1,6 +1,6 @@
 //! Who isn't an operator: what is asserted of writes.
 
-use crate::beginning::part::Part;
+use crate::beginning::part::SitePart;
 use crate::beginning::ports::address_of;
 use gw_rules::Range;
 use std::alloc::{AllocError, Global};
@@ -9,7 +9,7 @@ use std::alloc::{AllocError, Global};
 const LAST_KEY: u64 = 0xFFFF_FFFF_FFFF;
 
 /// The keys of the operators, in order.
-fn keys_of(alloc: Global, operators: &[Part]) -> Result<Vec<u64>, AllocError> {
+fn keys_of(alloc: Global, operators: &[SitePart]) -> Result<Vec<u64>, AllocError> {
     let mut keys = Vec::new(alloc);
     for operator in operators {
         keys.push(address_of(*operator).key48())?;
@@ -19,7 +19,7 @@ fn keys_of(alloc: Global, operators: &[Part]) -> Result<Vec<u64>, AllocError> {
 }
 
 /// The keys of all senders but the operators, in ranges.
-pub(crate) fn gaps_of(alloc: Global, operators: &[Part]) -> Result<Vec<Range>, AllocError> {
+pub(crate) fn gaps_of(alloc: Global, operators: &[SitePart]) -> Result<Vec<Range>, AllocError> {
     let keys = keys_of(alloc, operators)?;
     let mut gaps = Vec::new(alloc);
     let mut next = 0u64;

@@ -13,9 +13,9 @@ ghost use Rattle.gw_policy_drafts.specs.internal.Safe.{are_safe, is_one, is_safe
 
 use crate::beginning::fault::BeginFault;
 use crate::beginning::flaws::wrong_in;
-use crate::beginning::part::Part;
+use crate::beginning::part::SitePart;
 use crate::beginning::ports::{address_of, ports_of, routes_of};
-use crate::beginning::site::{Site, Words, site_in};
+use crate::beginning::site::{Site, SiteInWords, site_in};
 use crate::beginning::text::text_of;
 use crate::listing::{ListingFault, read};
 use gw_ask_sets::assertions::{JUDGING_STEPS, Judged, judge};
@@ -25,7 +25,7 @@ use gw_rules::{FieldName, Operation, Range, Rule, admit};
 use std::alloc::Global;
 
 /// Whether a key is that of an operator's station.
-fn is_operator(operators: &[Part], key: u64) -> bool
+fn is_operator(operators: &[SitePart], key: u64) -> bool
     ensures { result ≡ is_operator operators.now key }
 {
     operators
@@ -34,20 +34,20 @@ fn is_operator(operators: &[Part], key: u64) -> bool
 }
 
 /// Whether a range is the one key of an operator's station.
-fn is_one(operators: &[Part], range: Range) -> bool
+fn is_one(operators: &[SitePart], range: Range) -> bool
     ensures { result ≡ is_one operators.now range }
 {
     range.low == range.high && is_operator(operators, range.low)
 }
 
-fn are_each_one(operators: &[Part], ranges: &[Range]) -> bool
+fn are_each_one(operators: &[SitePart], ranges: &[Range]) -> bool
     ensures { result ≡ list_all (is_one operators.now) ranges.now }
 {
     ranges.iter().all(|range| is_one(operators, *range))
 }
 
 /// Whether a rule names operators alone as senders.
-fn names_operators(operators: &[Part], rule: &Rule) -> bool
+fn names_operators(operators: &[SitePart], rule: &Rule) -> bool
     ensures { result ≡ names_operators operators.now rule.now }
 {
     let senders = rule.ranges(FieldName::Sender).as_slice();
@@ -81,7 +81,7 @@ fn is_closed(operation: Operation) -> bool
 }
 
 /// Whether a rule may allow an operation.
-fn may_allow(operators: &[Part], rule: &Rule, operation: Operation) -> bool
+fn may_allow(operators: &[SitePart], rule: &Rule, operation: Operation) -> bool
     ensures { result ≡ may_allow operators.now rule.now operation }
 {
     match operation {
@@ -91,14 +91,14 @@ fn may_allow(operators: &[Part], rule: &Rule, operation: Operation) -> bool
     }
 }
 
-fn is_safe_for(operators: &[Part], rule: &Rule, operation: Operation) -> bool
+fn is_safe_for(operators: &[SitePart], rule: &Rule, operation: Operation) -> bool
     ensures { result ≡ is_safe_for operators.now rule.now operation }
 {
     let operations = rule.ranges(FieldName::Operation).as_slice();
     !admit(operations, Some(operation.number())) || may_allow(operators, rule, operation)
 }
 
-fn is_safe_for_each(operators: &[Part], rule: &Rule) -> bool
+fn is_safe_for_each(operators: &[SitePart], rule: &Rule) -> bool
     ensures { result ≡ list_all (is_safe_for operators.now rule.now) ALL }
 {
     Operation::ALL
@@ -106,13 +106,13 @@ fn is_safe_for_each(operators: &[Part], rule: &Rule) -> bool
         .all(|operation| is_safe_for(operators, rule, *operation))
 }
 
-fn is_safe(operators: &[Part], rule: &Rule) -> bool
+fn is_safe(operators: &[SitePart], rule: &Rule) -> bool
     ensures { result ≡ is_safe operators.now rule.now }
 {
     !rule.allow || is_safe_for_each(operators, rule)
 }
 
-fn are_safe(operators: &[Part], rules: &[Rule]) -> bool
+fn are_safe(operators: &[SitePart], rules: &[Rule]) -> bool
     ensures { result ≡ are_safe operators.now rules.now }
 {
     rules.iter().all(|rule| is_safe(operators, rule))
@@ -199,7 +199,7 @@ fn answer(written: Result<Vec<u8>, ListingFault>) -> Result<Vec<u8>, BeginFault>
 ///
 /// What was written is read again before it is answered. `Word` with the first word that is wrong; `Unlike` if what was written isn't read
 /// as a configuration of these ports and routes that allows no more than this and whose assertions hold; `Memory` if there is none for it.
-pub fn begin(alloc: Global, words: &Words<'_>) -> Result<Vec<u8>, BeginFault>
+pub fn begin(alloc: Global, words: &SiteInWords<'_>) -> Result<Vec<u8>, BeginFault>
     ensures begins { IfOk result (λ text. BeginsAs (site_text words.now) text.items) }
     ensures wrong { IfErr result (λ fault. IsWrong (site_text words.now) fault) }
 {

@@ -6,7 +6,7 @@ ghost use Rattle.gw_policy_drafts.specs.beginning.Site.{site_text};
 ghost use Rattle.gw_policy_drafts.specs.declared.beginning.fault.BeginFault.TheVariants.{Memory};
 
 use crate::beginning::part::SiteOption;
-use crate::beginning::site::Words;
+use crate::beginning::site::SiteInWords;
 use gw_addr::put_slice;
 use std::alloc::{AllocError, Global};
 use thiserror::Error;
@@ -161,7 +161,11 @@ fn word_at(words: &[String], place: usize) -> &str
 /// The line that says which word is wrong, and why: `--port 10.1.0.2/33: a prefix has 8 to 30 bits`; and one that says what to
 /// write.
 #[tactic(auto, unfolding(crate::specs::beginning::Flaws::wrong_line))]
-pub fn wrong_line(alloc: Global, words: &Words<'_>, wrong: WrongWord) -> Result<Vec<u8>, AllocError>
+pub fn wrong_line(
+    alloc: Global,
+    words: &SiteInWords<'_>,
+    wrong: WrongWord,
+) -> Result<Vec<u8>, AllocError>
     ensures { IfOk result (λ line. line.items ≡ wrong_line (site_text words.now) wrong) }
 {
     let WrongWord {

@@ -8,7 +8,7 @@ ghost use Rattle.gw_policy_drafts.specs.beginning.Flaws.{manager_flaw, of_number
 ghost use Rattle.gw_policy_drafts.specs.beginning.Site.{site_of};
 
 use crate::beginning::fault::{Flaw, WrongWord};
-use crate::beginning::part::{Part, SiteOption};
+use crate::beginning::part::{SiteOption, SitePart};
 use crate::beginning::site::Site;
 use gw_addr::MAX_PORTS;
 
@@ -42,32 +42,32 @@ fn first_flaw(flaws: &[(bool, Flaw)]) -> Option<Flaw>
     }
 }
 
-fn is_subnet(part: Part) -> bool
+fn is_subnet(part: SitePart) -> bool
     ensures { result ≡ is_subnet part }
 {
     8 <= part.prefix && part.prefix <= 30
 }
 
-fn overlaps_one(part: Part, parts: &[Part]) -> bool
+fn overlaps_one(part: SitePart, parts: &[SitePart]) -> bool
     ensures { result ≡ overlaps_one part parts.now }
 {
     parts.iter().any(|other| part.overlaps(*other))
 }
 
-fn is_given(number: u16, parts: &[Part]) -> bool
+fn is_given(number: u16, parts: &[SitePart]) -> bool
     ensures { result ≡ is_given number parts.now }
 {
     parts.iter().any(|other| other.number == number)
 }
 
-fn is_station(part: Part, parts: &[Part]) -> bool
+fn is_station(part: SitePart, parts: &[SitePart]) -> bool
     ensures { result ≡ is_station part parts.now }
 {
     let host = part.host();
     parts.iter().any(|other| other.has_station(host))
 }
 
-fn is_named(part: Part, parts: &[Part]) -> bool
+fn is_named(part: SitePart, parts: &[SitePart]) -> bool
     ensures { result ≡ is_named part parts.now }
 {
     let host = part.host();
@@ -75,7 +75,7 @@ fn is_named(part: Part, parts: &[Part]) -> bool
 }
 
 /// Whether a router's address is that of a station of one of these ports, and no port's own.
-fn is_beside(part: Part, ports: &[Part]) -> bool
+fn is_beside(part: SitePart, ports: &[SitePart]) -> bool
     ensures { result ≡ is_beside part ports.now }
 {
     is_station(part, ports) && !is_named(part, ports)
@@ -88,7 +88,7 @@ fn is_port(site: &Site, number: u16) -> bool
 }
 
 /// Whether a manager's address is that of a station of the port of its number.
-fn is_at_port(site: &Site, part: Part) -> bool
+fn is_at_port(site: &Site, part: SitePart) -> bool
     ensures { result ≡ is_at_port (site_of site.now) part }
 {
     let place = usize::from(part.number.saturating_sub(1));
@@ -99,7 +99,7 @@ fn is_at_port(site: &Site, part: Part) -> bool
 }
 
 /// Whether one of these ports names a UDP port and has a station of this address.
-fn is_of_named(host: u64, ports: &[Part]) -> bool
+fn is_of_named(host: u64, ports: &[SitePart]) -> bool
     ensures { result ≡ list_any (λ port. is_some port.udp && has_station host port) ports.now }
 {
     ports
@@ -108,7 +108,7 @@ fn is_of_named(host: u64, ports: &[Part]) -> bool
 }
 
 /// Whether a part names no UDP port, while the port of these does whose subnet has its address.
-fn lacks_udp(part: Part, ports: &[Part]) -> bool
+fn lacks_udp(part: SitePart, ports: &[SitePart]) -> bool
     ensures { result ≡ lacks_udp part ports.now }
 {
     let is_beyond = is_of_named(part.host(), ports);
@@ -116,7 +116,7 @@ fn lacks_udp(part: Part, ports: &[Part]) -> bool
 }
 
 /// Whether a peer names no UDP port, while its port does.
-fn lacks_udp_of(site: &Site, part: Part) -> bool
+fn lacks_udp_of(site: &Site, part: SitePart) -> bool
     ensures { result ≡ lacks_udp_of (site_of site.now) part }
 {
     let place = usize::from(part.number.saturating_sub(1));
@@ -127,14 +127,14 @@ fn lacks_udp_of(site: &Site, part: Part) -> bool
 }
 
 /// How many of these have a number.
-fn count_of(number: u16, parts: &[Part]) -> usize
+fn count_of(number: u16, parts: &[SitePart]) -> usize
     ensures { result ≡ length (of_number number parts.now) }
 {
     parts.iter().filter(|part| part.number == number).count()
 }
 
 #[tactic(auto, unfolding(crate::specs::beginning::Flaws::port_flaw))]
-fn port_flaw(site: &Site, before: &[Part], part: Part) -> Option<Flaw>
+fn port_flaw(site: &Site, before: &[SitePart], part: SitePart) -> Option<Flaw>
     ensures { result ≡ port_flaw (site_of site.now) before.now part }
 {
     first_flaw(&[
@@ -147,7 +147,7 @@ fn port_flaw(site: &Site, before: &[Part], part: Part) -> Option<Flaw>
 }
 
 #[tactic(auto, unfolding(crate::specs::beginning::Flaws::peer_flaw))]
-fn peer_flaw(site: &Site, before: &[Part], part: Part) -> Option<Flaw>
+fn peer_flaw(site: &Site, before: &[SitePart], part: SitePart) -> Option<Flaw>
     ensures { result ≡ peer_flaw (site_of site.now) before.now part }
 {
     let overlaps = overlaps_one(part, &site.ports) || overlaps_one(part, before);
@@ -165,7 +165,7 @@ fn peer_flaw(site: &Site, before: &[Part], part: Part) -> Option<Flaw>
 }
 
 /// Whether a number is no network's, or that of the gateway's device, of a port or of another network behind a router.
-fn is_taken(site: &Site, before: &[Part], number: u16) -> bool
+fn is_taken(site: &Site, before: &[SitePart], number: u16) -> bool
     ensures { result ≡ is_taken (site_of site.now) before.now number }
 {
     number == 0
@@ -176,7 +176,7 @@ fn is_taken(site: &Site, before: &[Part], number: u16) -> bool
 }
 
 #[tactic(auto, unfolding(crate::specs::beginning::Flaws::router_flaw))]
-fn router_flaw(site: &Site, before: &[Part], part: Part) -> Option<Flaw>
+fn router_flaw(site: &Site, before: &[SitePart], part: SitePart) -> Option<Flaw>
     ensures { result ≡ router_flaw (site_of site.now) before.now part }
 {
     first_flaw(&[
@@ -188,7 +188,7 @@ fn router_flaw(site: &Site, before: &[Part], part: Part) -> Option<Flaw>
 }
 
 #[tactic(auto, unfolding(crate::specs::beginning::Flaws::operator_flaw))]
-fn operator_flaw(site: &Site, before: &[Part], part: Part) -> Option<Flaw>
+fn operator_flaw(site: &Site, before: &[SitePart], part: SitePart) -> Option<Flaw>
     ensures { result ≡ operator_flaw (site_of site.now) before.now part }
 {
     let is_stranger = !is_station(part, &site.ports) && !is_station(part, &site.peers);
@@ -201,7 +201,7 @@ fn operator_flaw(site: &Site, before: &[Part], part: Part) -> Option<Flaw>
 }
 
 #[tactic(auto, unfolding(crate::specs::beginning::Flaws::manager_flaw))]
-fn manager_flaw(site: &Site, before: &[Part], part: Part) -> Option<Flaw>
+fn manager_flaw(site: &Site, before: &[SitePart], part: SitePart) -> Option<Flaw>
     ensures { result ≡ manager_flaw (site_of site.now) before.now part }
 {
     first_flaw(&[
@@ -214,7 +214,7 @@ fn manager_flaw(site: &Site, before: &[Part], part: Part) -> Option<Flaw>
 }
 
 /// What is wrong with a part that comes after these of its option.
-fn flaw_of(site: &Site, option: SiteOption, before: &[Part], part: Part) -> Option<Flaw>
+fn flaw_of(site: &Site, option: SiteOption, before: &[SitePart], part: SitePart) -> Option<Flaw>
     ensures { result ≡ flaw_of (site_of site.now) option before.now part }
 {
     match option {
@@ -227,7 +227,7 @@ fn flaw_of(site: &Site, option: SiteOption, before: &[Part], part: Part) -> Opti
 }
 
 /// The first of some parts of an option that is wrong.
-fn wrong_among(site: &Site, option: SiteOption, parts: &[Part]) -> Option<WrongWord>
+fn wrong_among(site: &Site, option: SiteOption, parts: &[SitePart]) -> Option<WrongWord>
     ensures { result ≡ wrong_from (site_of site.now) option [] parts.now }
 {
     for place in 0..parts.len() {

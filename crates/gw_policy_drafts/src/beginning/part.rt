@@ -57,7 +57,7 @@ impl SiteOption {
 
 /// What a word says.
 #[derive(Clone, Copy)]
-pub struct Part {
+pub struct SitePart {
     /// The number of a port or of a network, or 0 if its option has none.
     pub number: u16,
     /// The IPv4 address.
@@ -104,12 +104,12 @@ fn udp_after(text: &str) -> Option<(&str, Option<u16>)> {
 }
 
 /// What a word may say.
-fn read(option: SiteOption, text: &str) -> Option<Part> {
+fn read(option: SiteOption, text: &str) -> Option<SitePart> {
     let (number, rest) = number_before(option.is_numbered(), text)?;
     let (rest, udp) = udp_after(rest)?;
     let (front, prefix) = prefix_after(option.has_prefix(), rest)?;
     let ip = Mask::parse(front)?.octets;
-    Some(Part {
+    Some(SitePart {
         number,
         ip,
         prefix,
@@ -154,7 +154,7 @@ fn put_udp(out: &mut Vec<u8>, udp: Option<u16>) -> Result<(), AllocError>
 
 /// Appends the word that says a part.
 #[tactic(auto, unfolding(crate::specs::beginning::Part::word_of))]
-fn put_part(out: &mut Vec<u8>, option: SiteOption, part: Part) -> Result<(), AllocError>
+fn put_part(out: &mut Vec<u8>, option: SiteOption, part: SitePart) -> Result<(), AllocError>
     ensures { IsAppended (word_of option part) out.old out.new result }
 {
     let octets = part.ip;
@@ -165,7 +165,7 @@ fn put_part(out: &mut Vec<u8>, option: SiteOption, part: Part) -> Result<(), All
 }
 
 /// The word that says a part.
-fn word_of(alloc: Global, option: SiteOption, part: Part) -> Result<Vec<u8>, AllocError>
+fn word_of(alloc: Global, option: SiteOption, part: SitePart) -> Result<Vec<u8>, AllocError>
     ensures { IfOk result (λ word. word.items ≡ word_of option part) }
 {
     let mut word = Vec::new(alloc);
@@ -178,7 +178,7 @@ pub(crate) fn part_in(
     alloc: Global,
     option: SiteOption,
     text: &str,
-) -> Result<Option<Part>, AllocError>
+) -> Result<Option<SitePart>, AllocError>
     ensures { IfOk result (λ found. IfSome found (λ part. word_of option part ≡ text.now)) }
 {
     let Some(part) = read(option, text) else {
@@ -192,7 +192,7 @@ pub(crate) fn part_in(
     })
 }
 
-impl Part {
+impl SitePart {
     /// Its address as a number.
     pub(crate) fn host(self) -> u64
         ensures host { result ≡ host_of self }
@@ -224,7 +224,7 @@ impl Part {
     }
 
     /// Whether two subnets share an address.
-    pub(crate) fn overlaps(self, other: Part) -> bool
+    pub(crate) fn overlaps(self, other: SitePart) -> bool
         ensures { result ≡ overlaps self other }
     {
         self.first() <= other.last() && other.first() <= self.last()

@@ -7,7 +7,7 @@ ghost use Rattle.gw_policy_drafts.specs.beginning.Flaws.{of_number};
 ghost use Rattle.gw_policy_drafts.specs.beginning.Ports.{address_of, broadcast_of, entry_of, port_of, ports_of, route_of, routes_of, subnet_at, udp_of};
 ghost use Rattle.gw_policy_drafts.specs.beginning.Site.{site_of};
 
-use crate::beginning::part::Part;
+use crate::beginning::part::SitePart;
 use crate::beginning::site::Site;
 use crate::listing::ListingFault;
 use gw_addr::{BdtEntry, BipAddr, MAX_PORTS, NetNum, Sequence};
@@ -18,7 +18,7 @@ use std::alloc::{AllocError, Global};
 const USUAL_PORT: u16 = 0xBAC0;
 
 /// The UDP port of a part.
-fn udp_of(part: Part) -> u16
+fn udp_of(part: SitePart) -> u16
     ensures { result ≡ udp_of part }
 {
     match part.udp {
@@ -28,7 +28,7 @@ fn udp_of(part: Part) -> u16
 }
 
 /// The address of a part.
-pub(crate) fn address_of(part: Part) -> BipAddr
+pub(crate) fn address_of(part: SitePart) -> BipAddr
     ensures { result ≡ address_of part }
 {
     let ip = part.ip;
@@ -39,7 +39,7 @@ pub(crate) fn address_of(part: Part) -> BipAddr
 }
 
 /// Where its broadcasts go.
-fn broadcast_of(part: Part) -> BipAddr
+fn broadcast_of(part: SitePart) -> BipAddr
     ensures { result ≡ broadcast_of part }
 {
     let [_, _, _, _, a, b, c, d] = part.last().to_be_bytes();
@@ -50,7 +50,7 @@ fn broadcast_of(part: Part) -> BipAddr
 }
 
 /// Its subnet. `Unlike` if there is none, which no part has of which nothing is wrong.
-fn subnet_at(part: Part) -> Result<Subnet, ListingFault>
+fn subnet_at(part: SitePart) -> Result<Subnet, ListingFault>
     ensures { IfOk result (λ subnet. subnet ≡ subnet_at part) }
 {
     let [_, _, _, _, a, b, c, d] = part.first().to_be_bytes();
@@ -61,7 +61,7 @@ fn subnet_at(part: Part) -> Result<Subnet, ListingFault>
 }
 
 /// The parts of a number.
-fn of_number(alloc: Global, number: u16, parts: &[Part]) -> Result<Vec<Part>, AllocError>
+fn of_number(alloc: Global, number: u16, parts: &[SitePart]) -> Result<Vec<SitePart>, AllocError>
     ensures { IfOk result (λ some. some.items ≡ of_number number parts.now) }
 {
     let mut some = Vec::new(alloc);
@@ -74,7 +74,11 @@ fn of_number(alloc: Global, number: u16, parts: &[Part]) -> Result<Vec<Part>, Al
 }
 
 /// The subnet of a port and those of its peers.
-fn subnets_of(alloc: Global, part: Part, peers: &[Part]) -> Result<Sequence<Subnet>, ListingFault>
+fn subnets_of(
+    alloc: Global,
+    part: SitePart,
+    peers: &[SitePart],
+) -> Result<Sequence<Subnet>, ListingFault>
     ensures { IfOk result (λ subnets. subnets ≡ map subnet_at (part ∷ peers.now)) }
 {
     let mut subnets = Sequence::new(alloc);
@@ -86,7 +90,7 @@ fn subnets_of(alloc: Global, part: Part, peers: &[Part]) -> Result<Sequence<Subn
 }
 
 /// The entries of peers.
-fn entries_of(alloc: Global, peers: &[Part]) -> Result<Sequence<BdtEntry>, AllocError>
+fn entries_of(alloc: Global, peers: &[SitePart]) -> Result<Sequence<BdtEntry>, AllocError>
     ensures { IfOk result (λ entries. entries ≡ map entry_of peers.now) }
 {
     let mut entries = Sequence::new(alloc);
@@ -97,7 +101,7 @@ fn entries_of(alloc: Global, peers: &[Part]) -> Result<Sequence<BdtEntry>, Alloc
 }
 
 /// A broadcast manager that sends broadcasts on in its subnet itself (Annex J.4.3.2).
-fn entry_of(part: Part) -> BdtEntry
+fn entry_of(part: SitePart) -> BdtEntry
     ensures { result ≡ entry_of part }
 {
     BdtEntry {
@@ -106,7 +110,7 @@ fn entry_of(part: Part) -> BdtEntry
     }
 }
 
-fn first_manager(number: u16, managers: &[Part]) -> Option<Part>
+fn first_manager(number: u16, managers: &[SitePart]) -> Option<SitePart>
     ensures { result ≡ find (λ manager. manager.number == number) managers.now }
 {
     managers
@@ -116,7 +120,7 @@ fn first_manager(number: u16, managers: &[Part]) -> Option<Part>
 }
 
 /// The broadcast manager beside the port of a number.
-fn manager_of(number: u16, managers: &[Part]) -> Option<BipAddr>
+fn manager_of(number: u16, managers: &[SitePart]) -> Option<BipAddr>
     ensures { result ≡ option_map address_of (find (λ manager. manager.number == number) managers.now) }
 {
     match first_manager(number, managers) {
@@ -136,7 +140,7 @@ fn network_of(number: u16) -> Result<NetNum, ListingFault>
 }
 
 /// The stations of a port with these peers. `Unlike` if they are too many subnets.
-fn stations_of(alloc: Global, part: Part, peers: &[Part]) -> Result<Stations, ListingFault>
+fn stations_of(alloc: Global, part: SitePart, peers: &[SitePart]) -> Result<Stations, ListingFault>
     ensures { IfOk result (λ stations. stations ≡ map subnet_at (part ∷ peers.now)) }
 {
     let subnets = subnets_of(alloc, part, peers)?;
@@ -147,7 +151,7 @@ fn stations_of(alloc: Global, part: Part, peers: &[Part]) -> Result<Stations, Li
 }
 
 /// The peers of a port. `Unlike` if they are too many.
-fn peers_of(alloc: Global, peers: &[Part]) -> Result<Peers, ListingFault>
+fn peers_of(alloc: Global, peers: &[SitePart]) -> Result<Peers, ListingFault>
     ensures { IfOk result (λ list. list ≡ map entry_of peers.now) }
 {
     let entries = entries_of(alloc, peers)?;
@@ -158,7 +162,7 @@ fn peers_of(alloc: Global, peers: &[Part]) -> Result<Peers, ListingFault>
 }
 
 /// The port of this number. `Unlike` if a configuration can't have it.
-fn port_of(alloc: Global, site: &Site, number: u16, part: Part) -> Result<Port, ListingFault>
+fn port_of(alloc: Global, site: &Site, number: u16, part: SitePart) -> Result<Port, ListingFault>
     ensures { IfOk result (λ port. port ≡ port_of (site_of site.now) number part) }
 {
     let others = of_number(alloc, number, &site.peers)?;
@@ -205,7 +209,7 @@ fn add_port(ports: &mut Vec<Port>, port: Port) -> Result<(), AllocError>
     Ok(())
 }
 
-fn place_with(part: Part, ports: &[Part]) -> Option<usize>
+fn place_with(part: SitePart, ports: &[SitePart]) -> Option<usize>
     ensures place { result ≡ position (has_station (host_of part)) ports.now }
     ensures within { IfSome result (λ place. place < length ports.now) }
 {
@@ -214,7 +218,7 @@ fn place_with(part: Part, ports: &[Part]) -> Option<usize>
 }
 
 /// The number of the port whose subnet has a router, or 0.
-fn port_with(part: Part, ports: &[Part]) -> usize
+fn port_with(part: SitePart, ports: &[SitePart]) -> usize
     ensures { result ≡ option_map_or (λ place. place + 1) (position (has_station (host_of part)) ports.now) 0 }
 {
     match place_with(part, ports) {
@@ -234,7 +238,7 @@ fn port_number(number: usize) -> Result<u8, ListingFault>
 }
 
 /// A network behind a router. `Unlike` if a configuration can't have it.
-fn route_of(site: &Site, part: Part) -> Result<Route, ListingFault>
+fn route_of(site: &Site, part: SitePart) -> Result<Route, ListingFault>
     ensures { IfOk result (λ route. route ≡ route_of (site_of site.now) part) }
 {
     let network = network_of(part.number)?;

@@ -9,12 +9,12 @@ ghost use Rattle.gw_policy_drafts.specs.declared.beginning.fault.Flaw.TheVariant
 ghost use Rattle.gw_policy_drafts.specs.beginning.Begun.{IsUnread};
 
 use crate::beginning::fault::{BeginFault, Flaw, WrongWord};
-use crate::beginning::part::{Part, SiteOption, part_in};
+use crate::beginning::part::{SiteOption, SitePart, part_in};
 use std::alloc::{AllocError, Global};
 
 /// The words of a call, by their options.
 #[derive(Clone, Copy)]
-pub struct Words<'a> {
+pub struct SiteInWords<'a> {
     /// The ports, in order: the first is port 1, on network 1.
     pub ports: &'a [String],
     /// Other broadcast managers, each with the number of the port that shares broadcasts with it, and its subnet.
@@ -27,7 +27,7 @@ pub struct Words<'a> {
     pub managers: &'a [String],
 }
 
-impl Words<'_> {
+impl SiteInWords<'_> {
     /// The words of an option.
     pub(crate) fn of(&self, option: SiteOption) -> &[String]
         ensures { map string_bytes result.now ≡ words_in (site_text self.now) option }
@@ -45,14 +45,14 @@ impl Words<'_> {
 /// What the words of a call say, by their options.
 #[derive(Drop)]
 pub(crate) struct Site {
-    pub ports: Vec<Part>,
-    pub peers: Vec<Part>,
-    pub routers: Vec<Part>,
-    pub operators: Vec<Part>,
-    pub managers: Vec<Part>,
+    pub ports: Vec<SitePart>,
+    pub peers: Vec<SitePart>,
+    pub routers: Vec<SitePart>,
+    pub operators: Vec<SitePart>,
+    pub managers: Vec<SitePart>,
 }
 
-fn add_part(parts: &mut Vec<Part>, part: Part) -> Result<(), AllocError>
+fn add_part(parts: &mut Vec<SitePart>, part: SitePart) -> Result<(), AllocError>
     ensures { OnOk result (parts.new.items ≡ parts.old.items ++ part ∷ []) }
 {
     parts.push(part)?;
@@ -61,7 +61,7 @@ fn add_part(parts: &mut Vec<Part>, part: Part) -> Result<(), AllocError>
 
 impl Site {
     /// The parts of an option.
-    pub(crate) fn parts(&self, option: SiteOption) -> &[Part]
+    pub(crate) fn parts(&self, option: SiteOption) -> &[SitePart]
         ensures { result.now ≡ parts_in (site_of self.now) option }
     {
         match option {
@@ -86,7 +86,11 @@ fn unread(option: SiteOption, place: usize) -> BeginFault
 }
 
 /// What the words of an option say.
-fn parts_in(alloc: Global, words: &Words<'_>, option: SiteOption) -> Result<Vec<Part>, BeginFault>
+fn parts_in(
+    alloc: Global,
+    words: &SiteInWords<'_>,
+    option: SiteOption,
+) -> Result<Vec<SitePart>, BeginFault>
     ensures says { IfOk result (λ parts. map (word_of option) parts.items ≡ words_in (site_text words.now) option) }
     ensures form { IfErr result (λ fault. IsUnread (site_text words.now) fault) }
 {
@@ -102,7 +106,7 @@ fn parts_in(alloc: Global, words: &Words<'_>, option: SiteOption) -> Result<Vec<
 }
 
 /// What the words of a call say.
-pub(crate) fn site_in(alloc: Global, words: &Words<'_>) -> Result<Site, BeginFault>
+pub(crate) fn site_in(alloc: Global, words: &SiteInWords<'_>) -> Result<Site, BeginFault>
     ensures says { IfOk result (λ site. Says (site_text words.now) (site_of site)) }
     ensures form { IfErr result (λ fault. IsUnread (site_text words.now) fault) }
 {

@@ -12,7 +12,7 @@ use std::alloc::Global;
 
 /// A rule that is left out, and the place, from 0, of the assertion that it would break.
 #[derive(Drop)]
-pub(crate) struct Left {
+pub(crate) struct LeftOut {
     pub rule: Rule,
     pub assertion: usize,
 }
@@ -28,7 +28,7 @@ pub(crate) struct Breaking {
 #[derive(Drop)]
 pub(crate) struct Parted {
     pub kept: Vec<Rule>,
-    pub left: Vec<Left>,
+    pub left: Vec<LeftOut>,
 }
 
 impl Parted {
@@ -40,7 +40,7 @@ impl Parted {
         ensures stays { OnOk result (StaysSuggested self.old.kept.items self.old.left.items self.new.kept.items self.new.left.items) }
     {
         let rule = self.kept.remove(found.rule);
-        self.left.push(Left {
+        self.left.push(LeftOut {
             rule,
             assertion: found.assertion,
         })?;

@@ -77,12 +77,12 @@ fn take_ask(rules: &RuleList, ask: &Ask, given: &mut Given) -> Result<(), Sugges
 
 /// The lines that are read, and what was seen in them.
 #[derive(Drop)]
-struct Reading {
+struct LinesRead {
     lines: LineReader,
     seen: Seen,
 }
 
-impl Reading {
+impl LinesRead {
     /// Takes the line of this number. It answers whether there was one.
     fn take_next<R: OctetSource>(
         &mut self,
@@ -135,7 +135,7 @@ pub(crate) fn read_asks<R: OctetSource>(
     ensures { IfOk result (λ seen. (text : List ℕ) → R.left reader.old ≡ Some text →
         AreSeen rules.now (lines_of text) seen.given) }
 {
-    let reading = Reading {
+    let reading = LinesRead {
         lines: LineReader::new(),
         seen: Seen {
             given: Given::new(alloc)?,

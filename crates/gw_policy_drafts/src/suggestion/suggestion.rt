@@ -18,7 +18,7 @@ use crate::suggestion::joining::{Joined, join_all};
 use crate::suggestion::leaving::{Parted, find_breaking};
 use crate::suggestion::reading::{Seen, read_asks};
 use crate::suggestion::rules::rules_of;
-use crate::suggestion::text::{Place, Said, put_text};
+use crate::suggestion::text::{CommentParts, DraftSite, put_text};
 use gw_configuration::{Config, ConfigFault};
 use gw_policy_text::read_config;
 use gw_rules::{Ask, MAX_RULES, Rule};
@@ -132,7 +132,7 @@ fn text_of(
         seen.now.given added.items) }
 {
     let weighted = seen.given.weighted(alloc)?;
-    let said = Said {
+    let said = CommentParts {
         left: &parted.left,
         assertions: config.assertions(),
         asks: &weighted,
@@ -145,10 +145,10 @@ fn text_of(
 }
 
 /// Whose rules they are.
-fn place_of(config: &Config) -> Place
+fn place_of(config: &Config) -> DraftSite
     ensures { result ≡ place_of config.now }
 {
-    Place {
+    DraftSite {
         format: config.format(),
         network: u64::from(config.device().network.get()),
     }

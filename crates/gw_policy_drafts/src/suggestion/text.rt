@@ -12,7 +12,7 @@ ghost use Rattle.gw_policy_drafts.specs.suggestion.Text.{suggestion_text, table_
 
 use crate::migration::{put_field, put_field_items, put_operation, put_quoted_station};
 use crate::suggestion::given::{Weighted, is_open};
-use crate::suggestion::leaving::Left;
+use crate::suggestion::leaving::LeftOut;
 use gw_addr::put_decimal;
 use gw_configuration::{Assertion, Format};
 use gw_rules::{FieldName, Operation, Range, Rule};
@@ -20,7 +20,7 @@ use std::alloc::AllocError;
 
 /// Whose rules they are: the format of the configuration, and the network of its device.
 #[derive(Clone, Copy)]
-pub(crate) struct Place {
+pub(crate) struct DraftSite {
     pub format: Format,
     pub network: u64,
 }
@@ -28,8 +28,8 @@ pub(crate) struct Place {
 /// What the comments are about: the rules that are left out, and the assertions that they would break; the asks that were
 /// given, how many groups of them were left apart, and how many lines show no ask.
 #[derive(Clone, Copy)]
-pub(crate) struct Said<'a> {
-    pub left: &'a [Left],
+pub(crate) struct CommentParts<'a> {
+    pub left: &'a [LeftOut],
     pub assertions: &'a [Assertion],
     pub asks: &'a [Weighted],
     pub apart: u64,
@@ -39,9 +39,9 @@ pub(crate) struct Said<'a> {
 /// The text of the rules: a table for each, with comments; how many asks have none; and how many lines show no ask.
 pub(crate) fn put_text(
     out: &mut Vec<u8>,
-    place: Place,
+    place: DraftSite,
     rules: &[Rule],
-    said: &Said<'_>,
+    said: &CommentParts<'_>,
 ) -> Result<(), AllocError>
     ensures { OnOk result (out.new.items ≡ out.old.items
         ++ suggestion_text place said.now.assertions.now rules.now said.now.left.now said.now.asks.now said.now.apart said.now.unread) }
@@ -66,7 +66,7 @@ fn put_last(out: &mut Vec<u8>, open_asks: u64, apart: u64, unread: u64) -> Resul
 fn put_each_left(
     out: &mut Vec<u8>,
     assertions: &[Assertion],
-    left: &[Left],
+    left: &[LeftOut],
     asks: &[Weighted],
 ) -> Result<(), AllocError>
     ensures { OnOk result (out.new.items ≡ out.old.items ++ flat_map (left_text assertions.now asks.now) left.now) }
@@ -82,7 +82,7 @@ fn put_each_left(
 fn put_left(
     out: &mut Vec<u8>,
     assertions: &[Assertion],
-    left: &Left,
+    left: &LeftOut,
     asks: &[Weighted],
 ) -> Result<(), AllocError>
     ensures { OnOk result (out.new.items ≡ out.old.items ++ left_text assertions.now asks.now left.now) }
@@ -157,7 +157,7 @@ fn put_commented(out: &mut Vec<u8>, field: FieldName, ranges: &[Range]) -> Resul
 fn put_none(
     out: &mut Vec<u8>,
     rules: &[Rule],
-    left: &[Left],
+    left: &[LeftOut],
     open_asks: u64,
 ) -> Result<(), AllocError>
     ensures { OnOk result (out.new.items ≡ out.old.items ++ none_line rules.now left.now open_asks) }
@@ -171,7 +171,7 @@ fn put_none(
 
 fn put_rules(
     out: &mut Vec<u8>,
-    place: Place,
+    place: DraftSite,
     rules: &[Rule],
     asks: &[Weighted],
 ) -> Result<(), AllocError>
@@ -273,7 +273,7 @@ fn put_counted(
 #[tactic(auto, unfolding(crate::specs::suggestion::Text::rule_text))]
 fn put_rule(
     out: &mut Vec<u8>,
-    place: Place,
+    place: DraftSite,
     rule: &Rule,
     asks: &[Weighted],
 ) -> Result<(), AllocError>
@@ -308,7 +308,7 @@ fn asks_of(rule: &Rule, asks: &[Weighted]) -> u64
 
 /// Appends a comment if the rule names no source: then it is about the whole network; and for each other field that the
 /// asks it is for lack.
-fn put_notes(out: &mut Vec<u8>, place: Place, rule: &Rule) -> Result<(), AllocError>
+fn put_notes(out: &mut Vec<u8>, place: DraftSite, rule: &Rule) -> Result<(), AllocError>
     ensures { OnOk result (out.new.items ≡ out.old.items ++ notes_text place rule.now) }
 {
     put_source(out, place.format, rule)?;
@@ -341,7 +341,7 @@ fn put_unnamed(out: &mut Vec<u8>, format: Format) -> Result<(), AllocError>
     }
 }
 
-fn put_each_note(out: &mut Vec<u8>, place: Place, rule: &Rule) -> Result<(), AllocError>
+fn put_each_note(out: &mut Vec<u8>, place: DraftSite, rule: &Rule) -> Result<(), AllocError>
     ensures { OnOk result (out.new.items ≡ out.old.items ++ flat_map (note_line place rule.now) ALL) }
 {
     for field in FieldName::ALL.iter() {
@@ -353,7 +353,7 @@ fn put_each_note(out: &mut Vec<u8>, place: Place, rule: &Rule) -> Result<(), All
 #[tactic(auto, unfolding(crate::specs::suggestion::Text::note_line))]
 fn put_note(
     out: &mut Vec<u8>,
-    place: Place,
+    place: DraftSite,
     rule: &Rule,
     field: FieldName,
 ) -> Result<(), AllocError>
@@ -376,7 +376,7 @@ fn put_any(out: &mut Vec<u8>, field: FieldName) -> Result<(), AllocError>
 }
 
 /// Whether a field that a rule doesn't name is worth a comment: its asks lack it, and others of the operation may have it.
-fn matters(place: Place, rule: &Rule, field: FieldName) -> bool
+fn matters(place: DraftSite, rule: &Rule, field: FieldName) -> bool
     ensures { result ≡ matters place rule.now field }
 {
     match field {
@@ -401,7 +401,7 @@ fn is_request(rule: &Rule) -> bool
 }
 
 /// Whether asks of the rule's operations may name a station: those that are passed on, and that delete a registration.
-fn may_name_station(place: Place, rule: &Rule) -> bool
+fn may_name_station(place: DraftSite, rule: &Rule) -> bool
     ensures { result ≡ may_name_station place rule.now }
 {
     place.format.names_stations()

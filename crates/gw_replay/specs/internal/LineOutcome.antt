@@ -8,14 +8,14 @@ use Rattle.gw_replay.specs.declared.replaying.RunFault.TheVariants.{CountEnd}
 use Rattle.gw_core.specs.State.{State}
 use Rattle.gw_core.specs.Effects.{passes_end, NeedsNoMemory}
 use Rattle.gw_script.specs.Script.{lines_of}
-use Rattle.gw_replay.specs.Entry.{Entry, IsEntry, MayWantMemory, PassesEndAt, moved_by}
+use Rattle.gw_replay.specs.Entry.{ScriptEntry, IsEntry, MayWantMemory, PassesEndAt, moved_by}
 use Rattle.gw_replay.specs.Replay.{EventText, entry_text}
 
 -- the first line writes something, whose text was appended, and the gateway moved on by it
 pub record WholeStep (wording : EventText) (w moved : State) (text : List ℕ) (left : Option (List ℕ)) (before : List ℕ)
     (after : Option (List ℕ)) : Type 0 where
   pub line : List ℕ
-  pub entry : Entry
+  pub entry : ScriptEntry
   pub writes : IsEntry w.relay.announce (length w.relay.ports) line entry
   pub rest : List ℕ
   pub remains : left ≡ Some rest
@@ -28,12 +28,12 @@ pub record NoEntry (w : State) (text : List ℕ) : Type 0 where
   pub line : List ℕ
   pub others : List (List ℕ)
   pub lines : lines_of text ≡ line ∷ others
-  pub no_entry : (e : Entry) → ¬ (IsEntry w.relay.announce (length w.relay.ports) line e)
+  pub no_entry : (e : ScriptEntry) → ¬ (IsEntry w.relay.announce (length w.relay.ports) line e)
 
 -- the first line writes something, of whose text a front was appended
 pub record CutStep (wording : EventText) (w : State) (text before : List ℕ) (after : Option (List ℕ)) : Type 0 where
   pub line : List ℕ
-  pub entry : Entry
+  pub entry : ScriptEntry
   pub others : List (List ℕ)
   pub writes : IsEntry w.relay.announce (length w.relay.ports) line entry
   pub lines : lines_of text ≡ line ∷ others
@@ -45,7 +45,7 @@ pub record CutStep (wording : EventText) (w : State) (text before : List ℕ) (a
 -- the first line writes an event that would pass the end of a count
 pub record PassesEnd (w : State) (text : List ℕ) : Type 0 where
   pub line : List ℕ
-  pub entry : Entry
+  pub entry : ScriptEntry
   pub others : List (List ℕ)
   pub writes : IsEntry w.relay.announce (length w.relay.ports) line entry
   pub lines : lines_of text ≡ line ∷ others
@@ -54,7 +54,7 @@ pub record PassesEnd (w : State) (text : List ℕ) : Type 0 where
 -- the first line writes something for which memory may be wanted
 pub record MemoryWant (w : State) (text : List ℕ) : Type 0 where
   pub line : List ℕ
-  pub entry : Entry
+  pub entry : ScriptEntry
   pub others : List (List ℕ)
   pub writes : IsEntry w.relay.announce (length w.relay.ports) line entry
   pub lines : lines_of text ≡ line ∷ others
@@ -89,5 +89,5 @@ IsEventFault w event fault =
     ((fault ≡ Memory) × ¬ (NeedsNoMemory w event)) ⊎ ((fault ≡ CountEnd) × (passes_end w event ≡ true))
 
 -- the same of what a line writes
-abbrev pub IsEntryFault : State → Entry → RunFault → Type 0
+abbrev pub IsEntryFault : State → ScriptEntry → RunFault → Type 0
 IsEntryFault w entry fault = ((fault ≡ Memory) × MayWantMemory w entry) ⊎ ((fault ≡ CountEnd) × PassesEndAt w entry)

@@ -6,9 +6,9 @@ use Rattle.gw_configuration.specs.Configuration.{Configuration}
 use Rattle.gw_report.proofs.points_lemmas.Records.{AreWide, rows_found}
 use Rattle.gw_report.specs.points.Cells.{guarded, is_one_of, is_risky, risks, unguarded}
 use Rattle.gw_report.specs.points.Laws.{ColumnsAreSixteen, NamesAreFound, RowsAreFound}
-use Rattle.gw_report.specs.points.Points.{Point, column_row, point_row, points, points_rows}
+use Rattle.gw_report.specs.points.Points.{PointLine, column_row, point_row, points, points_rows}
 
-points_wide : (ps : List Point) → AreWide (map point_row ps)
+points_wide : (ps : List PointLine) → AreWide (map point_row ps)
 points_wide [] = tt
 points_wide (p ∷ ps) = (tt, points_wide ps)
 

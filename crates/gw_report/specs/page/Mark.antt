@@ -4,13 +4,13 @@ use Rattle.gw_report.specs.declared.page.drawing.Label.{Label}
 use Rattle.gw_report.specs.declared.page.drawing.Label.TheVariants as label
 use Rattle.gw_report.specs.declared.page.drawing.Shape.{Shape}
 use Rattle.gw_report.specs.declared.page.drawing.Shape.TheVariants as shape
-use Rattle.gw_report.specs.declared.page.element.Element.{Element}
-use Rattle.gw_report.specs.declared.page.element.Element.TheVariants as element
+use Rattle.gw_report.specs.declared.page.element.PageElement.{PageElement}
+use Rattle.gw_report.specs.declared.page.element.PageElement.TheVariants as element
 use Rattle.gw_report.specs.declared.page.mark.Mark.{Mark}
 use Rattle.gw_report.specs.declared.page.mark.Mark.TheVariants as mark
 use Rattle.gw_report.specs.declared.page.mark.TheConstants.{BEGIN, STYLE}
 
-abbrev pub opening : Element → List ℕ
+abbrev pub opening : PageElement → List ℕ
 opening element.Title = codes "<h1>"
 opening element.Heading = codes "<h2>"
 opening element.Subheading = codes "<h3>"
@@ -28,7 +28,7 @@ opening element.List = codes "<ul>\n"
 opening element.Item = codes "<li>"
 opening element.Code = codes "<code>"
 
-abbrev pub closing : Element → List ℕ
+abbrev pub closing : PageElement → List ℕ
 closing element.Title = codes "</h1>\n"
 closing element.Heading = codes "</h2>\n"
 closing element.Subheading = codes "</h3>\n"

@@ -36,7 +36,7 @@ key_of device kind instance =
     decimal device ++ (45 ∷ (unwrap_or (object_type_name kind) [] ++ (45 ∷ decimal instance)))
 
 -- what differs in a line from one object to another
-pub record Point : Type 0 where
+pub record PointLine : Type 0 where
   pub device : ℕ
   pub kind : ℕ
   pub instance : ℕ
@@ -51,19 +51,19 @@ pub record Point : Type 0 where
 abbrev pub settable_cell : Bool → List ℕ
 settable_cell settable = if settable then codes "Y" else codes "N"
 
-abbrev pub identity_cells : Point → (name description : List ℕ) → Row
+abbrev pub identity_cells : PointLine → (name description : List ℕ) → Row
 identity_cells p name description = decimal p.device ∷ name ∷ decimal p.kind ∷ decimal p.instance ∷ description ∷ []
 
-abbrev pub value_cells : Point → Row
+abbrev pub value_cells : PointLine → Row
 value_cells p = p.default ∷ [] ∷ [] ∷ settable_cell p.settable ∷ codes "N" ∷ []
 
-abbrev pub limits_cells : Point → Row
+abbrev pub limits_cells : PointLine → Row
 limits_cells p = [] ∷ [] ∷ [] ∷ p.units ∷ [] ∷ []
 
-abbrev pub cells : Point → (key name description : List ℕ) → Row
+abbrev pub cells : PointLine → (key name description : List ℕ) → Row
 cells p key name description = key ∷ (identity_cells p name description ++ (value_cells p ++ limits_cells p))
 
-abbrev pub point_row : Point → Row
+abbrev pub point_row : PointLine → Row
 point_row p = cells p (key_of p.device p.kind p.instance) (guarded p.name) (guarded p.description)
 
 -- the number of the type of a Device object (clause 21)
@@ -71,7 +71,7 @@ abbrev pub device_type : ℕ
 device_type = 8
 
 -- the line of the device
-abbrev pub device_point : Device → Point
+abbrev pub device_point : Device → PointLine
 device_point device = record {
   device = device.instance;
   kind = device_type;
@@ -98,7 +98,7 @@ units_cell (PositiveIntegerValue default units) = decimal units
 units_cell _ = []
 
 -- the line of an object of the device of this instance, whose Present_Value can be written
-abbrev pub object_point : ℕ → Object → Point
+abbrev pub object_point : ℕ → Object → PointLine
 object_point device object = record {
   device = device;
   kind = type_number object.value;
@@ -111,7 +111,7 @@ object_point device object = record {
 }
 
 -- the device and its objects, in order
-abbrev pub points : Configuration → List Point
+abbrev pub points : Configuration → List PointLine
 points c = device_point c.device ∷ map (object_point c.device.instance) c.objects
 
 abbrev pub points_rows : Configuration → List Row

@@ -30,7 +30,7 @@ pub enum Label {
 
 /// A place in a picture: so far to the right, and so far down.
 #[derive(Clone, Copy)]
-pub struct Place {
+pub struct PicturePlace {
     /// From the left.
     pub x: u64,
     /// From the top.

@@ -2,7 +2,7 @@
 
 /// An element of a page, with what it is for.
 #[derive(Clone, Copy)]
-pub enum Element {
+pub enum PageElement {
     /// The title of the page.
     Title,
     /// The heading of a part.

@@ -4,7 +4,7 @@ ghost use Rattle.std.specs.Prelude.{◌≡◌};
 ghost use Rattle.gw_report.specs.page.Mark.{closing, label_text, mark_text, opening, shape_text};
 
 use crate::page::drawing::{Label, Shape};
-use crate::page::element::Element;
+use crate::page::element::PageElement;
 
 /// A constant of a page.
 #[derive(Clone, Copy)]
@@ -16,9 +16,9 @@ pub enum Mark {
     /// What ends the document.
     End,
     /// The beginning of an element.
-    Open(Element),
+    Open(PageElement),
     /// The end of an element.
-    Close(Element),
+    Close(PageElement),
     /// The beginning of a picture, up to its height.
     Picture,
     /// What comes between a picture's height and what is in it.
@@ -124,45 +124,48 @@ impl Mark {
     }
 }
 
-fn opening(element: Element) -> &'static str
+fn opening(element: PageElement) -> &'static str
     ensures { result.now ≡ opening element }
 {
     match element {
-        Element::Title => "<h1>",
-        Element::Heading => "<h2>",
-        Element::Subheading => "<h3>",
-        Element::Paragraph => "<p>",
-        Element::Aside => "<p class=\"aside\">",
-        Element::Table => "<div class=\"wide\"><table>\n",
-        Element::Row => "<tr>",
-        Element::Head => "<th>",
-        Element::Cell => "<td>",
-        Element::Number => "<td class=\"number\">",
-        Element::All => "<td class=\"all\">",
-        Element::Some => "<td class=\"some\">",
-        Element::Nothing => "<td class=\"nothing\">",
-        Element::List => "<ul>\n",
-        Element::Item => "<li>",
-        Element::Code => "<code>",
+        PageElement::Title => "<h1>",
+        PageElement::Heading => "<h2>",
+        PageElement::Subheading => "<h3>",
+        PageElement::Paragraph => "<p>",
+        PageElement::Aside => "<p class=\"aside\">",
+        PageElement::Table => "<div class=\"wide\"><table>\n",
+        PageElement::Row => "<tr>",
+        PageElement::Head => "<th>",
+        PageElement::Cell => "<td>",
+        PageElement::Number => "<td class=\"number\">",
+        PageElement::All => "<td class=\"all\">",
+        PageElement::Some => "<td class=\"some\">",
+        PageElement::Nothing => "<td class=\"nothing\">",
+        PageElement::List => "<ul>\n",
+        PageElement::Item => "<li>",
+        PageElement::Code => "<code>",
     }
 }
 
-fn closing(element: Element) -> &'static str
+fn closing(element: PageElement) -> &'static str
     ensures { result.now ≡ closing element }
 {
     match element {
-        Element::Title => "</h1>\n",
-        Element::Heading => "</h2>\n",
-        Element::Subheading => "</h3>\n",
-        Element::Paragraph | Element::Aside => "</p>\n",
-        Element::Table => "</table></div>\n",
-        Element::Row => "</tr>\n",
-        Element::Head => "</th>",
-        Element::Cell | Element::Number | Element::All | Element::Some | Element::Nothing =>
-            "</td>",
-        Element::List => "</ul>\n",
-        Element::Item => "</li>\n",
-        Element::Code => "</code>",
+        PageElement::Title => "</h1>\n",
+        PageElement::Heading => "</h2>\n",
+        PageElement::Subheading => "</h3>\n",
+        PageElement::Paragraph | PageElement::Aside => "</p>\n",
+        PageElement::Table => "</table></div>\n",
+        PageElement::Row => "</tr>\n",
+        PageElement::Head => "</th>",
+        PageElement::Cell
+        | PageElement::Number
+        | PageElement::All
+        | PageElement::Some
+        | PageElement::Nothing => "</td>",
+        PageElement::List => "</ul>\n",
+        PageElement::Item => "</li>\n",
+        PageElement::Code => "</code>",
     }
 }
 

@@ -6,8 +6,8 @@ ghost use Rattle.gw_report.specs.page.Escape.{escaped};
 ghost use Rattle.gw_report.specs.page.Mark.{mark_text};
 ghost use Rattle.gw_report.specs.page.Page.{IsPage};
 
-use crate::page::drawing::{Label, Place, Shape, Size};
-use crate::page::element::Element;
+use crate::page::drawing::{Label, PicturePlace, Shape, Size};
+use crate::page::element::PageElement;
 use crate::page::escape::put_escaped;
 use crate::page::mark::Mark;
 use gw_addr::{keep_whole, put_slice};
@@ -143,7 +143,7 @@ impl Page {
 
     /// Begins an element.
     #[tactic(auto, unfolding(crate::specs::page::Elements::open_text))]
-    pub fn open(&mut self, element: Element) -> Result<(), AllocError>
+    pub fn open(&mut self, element: PageElement) -> Result<(), AllocError>
         ensures { OnOk result (self.new ≡ self.old ++ open_text element) }
     {
         self.mark(Mark::Open(element))
@@ -151,7 +151,7 @@ impl Page {
 
     /// Ends an element.
     #[tactic(auto, unfolding(crate::specs::page::Elements::close_text))]
-    pub fn close(&mut self, element: Element) -> Result<(), AllocError>
+    pub fn close(&mut self, element: PageElement) -> Result<(), AllocError>
         ensures { OnOk result (self.new ≡ self.old ++ close_text element) }
     {
         self.mark(Mark::Close(element))
@@ -159,7 +159,7 @@ impl Page {
 
     /// Appends an element that has this text.
     #[tactic(auto, unfolding(crate::specs::page::Elements::element_text))]
-    pub fn element(&mut self, element: Element, text: &str) -> Result<(), AllocError>
+    pub fn element(&mut self, element: PageElement, text: &str) -> Result<(), AllocError>
         ensures { OnOk result (self.new ≡ self.old ++ element_text element text.now) }
     {
         self.open(element)?;
@@ -169,7 +169,7 @@ impl Page {
 
     /// Appends an element that has the text of these octets.
     #[tactic(auto, unfolding(crate::specs::page::Elements::element_text))]
-    pub fn octets_element(&mut self, element: Element, octets: &[u8]) -> Result<(), AllocError>
+    pub fn octets_element(&mut self, element: PageElement, octets: &[u8]) -> Result<(), AllocError>
         ensures { OnOk result (self.new ≡ self.old ++ element_text element octets.now) }
     {
         self.open(element)?;
@@ -182,9 +182,9 @@ impl Page {
     pub fn number_cell(&mut self, number: u64) -> Result<(), AllocError>
         ensures { OnOk result (self.new ≡ self.old ++ number_cell number) }
     {
-        self.open(Element::Number)?;
+        self.open(PageElement::Number)?;
         self.number(number)?;
-        self.close(Element::Number)
+        self.close(PageElement::Number)
     }
 
     /// Begins a picture of this height.
@@ -205,7 +205,7 @@ impl Page {
     }
 
     /// Draws a rectangle, whose left upper corner is at the place.
-    pub fn draw(&mut self, shape: Shape, at: Place, size: Size) -> Result<(), AllocError> {
+    pub fn draw(&mut self, shape: Shape, at: PicturePlace, size: Size) -> Result<(), AllocError> {
         self.mark(Mark::Shape(shape))?;
         self.put_place(at)?;
         self.mark(Mark::Width)?;
@@ -216,7 +216,7 @@ impl Page {
     }
 
     /// Draws a text, which begins at the place.
-    pub fn label(&mut self, label: Label, at: Place, text: &str) -> Result<(), AllocError> {
+    pub fn label(&mut self, label: Label, at: PicturePlace, text: &str) -> Result<(), AllocError> {
         self.mark(Mark::Label(label))?;
         self.put_place(at)?;
         self.mark(Mark::LabelBody)?;
@@ -225,7 +225,7 @@ impl Page {
     }
 
     /// Appends both distances of a place.
-    fn put_place(&mut self, at: Place) -> Result<(), AllocError>
+    fn put_place(&mut self, at: PicturePlace) -> Result<(), AllocError>
         ensures { OnOk result (self.new ≡ ((self.old ++ decimal at.x) ++ mark_text Mark.Down) ++ decimal at.y) }
     {
         self.number(at.x)?;

@@ -97,7 +97,7 @@ fn put_columns(out: &mut Vec<u8>) -> Result<(), AllocError>
 
 /// What differs in a line from one object to another.
 #[derive(Clone, Copy)]
-struct Point<'a> {
+struct PointLine<'a> {
     device: u32,
     kind: u64,
     instance: u32,
@@ -113,7 +113,7 @@ fn put_device(alloc: Global, out: &mut Vec<u8>, device: &Device) -> Result<(), A
     ensures { OnOk result (out.new.items ≡ out.old.items ++ row_text (point_row (device_point device.now))) }
 {
     let instance = device.instance.get();
-    let point = Point {
+    let point = PointLine {
         device: instance,
         kind: DEVICE,
         instance,
@@ -153,7 +153,7 @@ fn put_object(
 {
     let default = default_cell(alloc, &object.value)?;
     let units = units_cell(alloc, &object.value)?;
-    let point = Point {
+    let point = PointLine {
         device,
         kind: object.value.type_number(),
         instance: object.instance.get(),
@@ -166,7 +166,7 @@ fn put_object(
     put_point(alloc, out, &point)
 }
 
-fn put_point(alloc: Global, out: &mut Vec<u8>, point: &Point<'_>) -> Result<(), AllocError>
+fn put_point(alloc: Global, out: &mut Vec<u8>, point: &PointLine<'_>) -> Result<(), AllocError>
     ensures { OnOk result (out.new.items ≡ out.old.items ++ row_text (point_row (point_view point.now))) }
 {
     let key = key_of(alloc, point.device, point.kind, point.instance)?;
@@ -177,7 +177,7 @@ fn put_point(alloc: Global, out: &mut Vec<u8>, point: &Point<'_>) -> Result<(), 
 
 fn put_cells(
     out: &mut Vec<u8>,
-    point: &Point<'_>,
+    point: &PointLine<'_>,
     key: &[u8],
     name: &[u8],
     description: &[u8],
@@ -196,7 +196,7 @@ fn put_cells(
 /// Appends which object it is.
 fn put_identity(
     out: &mut Vec<u8>,
-    point: &Point<'_>,
+    point: &PointLine<'_>,
     name: &[u8],
     description: &[u8],
 ) -> Result<(), AllocError>
@@ -212,7 +212,7 @@ fn put_identity(
 }
 
 /// Appends its default, no least and no greatest value, and whether it can be written and reports changes.
-fn put_value(out: &mut Vec<u8>, point: &Point<'_>) -> Result<(), AllocError>
+fn put_value(out: &mut Vec<u8>, point: &PointLine<'_>) -> Result<(), AllocError>
     ensures { OnOk result (out.new.items ≡ out.old.items
         ++ flat_map next_text (value_cells (point_view point.now))) }
 {
@@ -225,7 +225,7 @@ fn put_value(out: &mut Vec<u8>, point: &Point<'_>) -> Result<(), AllocError>
 }
 
 /// Appends no limits and no texts of states, the units, and no address of a vendor.
-fn put_limits(out: &mut Vec<u8>, point: &Point<'_>) -> Result<(), AllocError>
+fn put_limits(out: &mut Vec<u8>, point: &PointLine<'_>) -> Result<(), AllocError>
     ensures { OnOk result (out.new.items ≡ out.old.items
         ++ flat_map next_text (limits_cells (point_view point.now))) }
 {

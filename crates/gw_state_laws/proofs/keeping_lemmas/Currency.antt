@@ -23,9 +23,9 @@ use Rattle.gw_turns.specs.Serve.{Turn, empty_turn, events_of, failed_turn, lost_
 use Rattle.gw_turns.specs.Stretch.{AreGuarded, GoOn, GuardsTurn, IsFaulty, Moment, asked_until}
 use Rattle.gw_turns.specs.declared.serving.ServeFault.{ServeFault}
 use Rattle.gw_turns.specs.declared.serving.ServeFault.TheVariants as serving
-use Rattle.gw_turns.specs.declared.stretch.Pause.TheVariants.{Turns, Tick, Withheld}
+use Rattle.gw_turns.specs.declared.stretch.StretchEnd.TheVariants.{Turns, Tick, Withheld}
 use Rattle.gw_script.specs.Event as event
-use Rattle.gw_turns.specs.declared.alike.Part.TheVariants.{AllButTicks, Lasting}
+use Rattle.gw_turns.specs.declared.alike.SavedPart.TheVariants.{AllButTicks, Lasting}
 use Rattle.gw_wire.specs.declared.store.StoreFault.{StoreFault}
 use Rattle.gw_turns.proofs.AlikeLemmas.{alike_is_equal}
 use Rattle.gw_turns.proofs.ServeLemmas.{state_along}

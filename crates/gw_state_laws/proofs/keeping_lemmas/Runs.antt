@@ -13,7 +13,7 @@ use Rattle.gw_core.specs.State.{State}
 use Rattle.gw_turns.specs.Keeping.{HasAhead, IsHeld, IsRecent, IsTried, IsUpToDate, IsYoung, KeepsChanged, Keeping, KeptBy, TicksBy, Tries, due_of, is_due, is_kept, nothing_kept}
 use Rattle.gw_turns.specs.Serve.{Turn, empty_turn, events_of, failed_turn, lost_event, taken_event, turn_events}
 use Rattle.gw_turns.specs.Stretch.{AreGuarded, GoOn, GuardsTurn, IsFaulty, Moment, asked_until}
-use Rattle.gw_turns.specs.declared.alike.Part.TheVariants.{AllButTicks}
+use Rattle.gw_turns.specs.declared.alike.SavedPart.TheVariants.{AllButTicks}
 use Rattle.gw_turns.specs.declared.serving.ServeFault.{ServeFault}
 use Rattle.gw_turns.specs.declared.serving.ServeFault.TheVariants as serving
 use Rattle.gw_wire.specs.declared.store.StoreFault.{StoreFault}
@@ -21,8 +21,8 @@ use Rattle.gw_turns.proofs.KeepingLemmas.{just_recent, recent_has_ahead, recent_
 use Rattle.gw_turns.proofs.ServeLemmas.{state_along}
 use Rattle.gw_service.specs.Chain.{AreLinks, Begins, IsLink, IsLooked, IsTicked, Link, Look, Manner, Runs, Stage, Standing}
 use Rattle.gw_service.specs.Chain.{ended, inquired, passed_over, refused, served, stopping, taken_over, ticked, unrequested, withheld}
-use Rattle.gw_service.specs.declared.running.End.{End}
-use Rattle.gw_service.specs.declared.running.End.TheVariants as end
+use Rattle.gw_service.specs.declared.running.RunEnd.{RunEnd}
+use Rattle.gw_service.specs.declared.running.RunEnd.TheVariants as end
 use Rattle.gw_service.specs.Keeping.{IsKeptAtTick, IsKeptFor, IsKeptLast, IsPassed, failing_in}
 use Rattle.gw_service.specs.Kept.{Given, KeepsFirst, reporting_of, watched_manner_of}
 use Rattle.gw_service.specs.Stats.{Reporting}
@@ -238,7 +238,7 @@ fault_keeps held part manner is c serving.CountEnd unwritten a b event p now =
     subst (λ j. KeepsCurrent held (part j) c a.scene.gateway) (sym p.guard) now
 
 end_keeps : {S K : Type 0} (held : S → Option (List ℕ)) (part : K → Kept S) (manner : Manner K) → IsPart held part manner → (count : ℕ)
-    (s t : Stage K) (answer : Result End ServeFault) (links : List Link) → (runs : Runs manner count s answer links t)
+    (s t : Stage K) (answer : Result RunEnd ServeFault) (links : List Link) → (runs : Runs manner count s answer links t)
     → KeepsAt held part s → KeepsAtEnd held part manner count s answer links t runs
 end_keeps held part manner is count s t (Ok end.Turns) links runs now = links_keep held part manner is s t links runs.chain now
 end_keeps held part manner is count s t (Ok end.Stopped) links runs now =
@@ -287,7 +287,7 @@ keeps_in held (In k) (In l) j w same p = record { keeper = l; is = refl; current
 
 -- what is kept at the end of a run is kept in a store, however that ended
 kept_at_end : {S K : Type 0} (held : S → Option (List ℕ)) (part : K → Kept S) (manner : Manner K) (count : ℕ) (first last : Stage K)
-    (answer : Result End ServeFault) (links : List Link) (runs : Runs manner count first answer links last)
+    (answer : Result RunEnd ServeFault) (links : List Link) (runs : Runs manner count first answer links last)
     → KeepsAtEnd held part manner count first answer links last runs → (j : Keeping S) × (part last.now.guard ≡ In j)
 kept_at_end held part manner count first last (Ok end) links runs now = (now.keeper, now.is)
 kept_at_end held part manner count first last (Err fault) links runs now = (now.keeper, now.is)

@@ -10,16 +10,16 @@ use Rattle.gw_core.specs.State.{State}
 use Rattle.gw_turns.specs.Keeping.{HasPassed, IsHeld, IsRecent, IsTried, IsTriedLast, IsUnkept, IsUpToDate, KeepsAtTick, Keeping, due_of, is_ahead, lasting_of}
 use Rattle.gw_turns.specs.Serve.{Turn}
 use Rattle.gw_turns.specs.Stretch.{EndsFaulty, EndsStretch, Moment, asked_until}
-use Rattle.gw_core.specs.declared.guard.Both.{Both}
+use Rattle.gw_core.specs.declared.guard.BothGuards.{BothGuards}
 use Rattle.gw_turns.specs.declared.serving.ServeFault.{ServeFault}
 use Rattle.gw_state_text.specs.Text.{state_text}
 use Rattle.gw_wire.specs.Store.{Holds}
 use Rattle.gw_wire.specs.declared.store.StoreFault.{StoreFault}
-use Rattle.gw_turns.specs.declared.stretch.Pause.{Pause}
+use Rattle.gw_turns.specs.declared.stretch.StretchEnd.{StretchEnd}
 use Rattle.gw_watchers.specs.Watching.{Watching}
 use Rattle.gw_service.specs.Chain.{AreLinks, IsTicked, Link, Look, Manner, Runs, Stage}
 use Rattle.gw_service.specs.Keeping.{failing_in}
-use Rattle.gw_service.specs.declared.running.End.{End}
+use Rattle.gw_service.specs.declared.running.RunEnd.{RunEnd}
 use Rattle.gw_service.specs.Kept.{Given, KeepsFirst, RunsWatched, reporting_of, watched_manner_of}
 use Rattle.gw_service.specs.Serving.{Ends, Service}
 use Rattle.gw_service.specs.Stats.{Reporting}
@@ -75,7 +75,7 @@ TicksKeepCurrent {S} held = (k l : Keeping S) (w : State) → KeepsAtTick held k
 
 -- At each pause of a stretch the keeper is current, if it was at its beginning.
 abbrev pub PausesKeep : {S : Type 0} → (S → Option (List ℕ)) → Type 0
-PausesKeep {S} held = (count : ℕ) (before after : Moment (Keeping S)) (pause : Pause) (unwritten : List ℕ) →
+PausesKeep {S} held = (count : ℕ) (before after : Moment (Keeping S)) (pause : StretchEnd) (unwritten : List ℕ) →
     EndsStretch (HasPassed held) count before (Ok pause) unwritten after → IsCurrent held before.guard before.scene.gateway →
     IsCurrent held after.guard after.scene.gateway
 
@@ -107,14 +107,14 @@ KeepsAt held part s = KeepsCurrent held (part s.now.guard) s.config s.now.scene.
 -- So it is at the end of a run. If its last event ended in a fault but that of the log, the state is that before this event. Of such an
 -- event nothing was sent.
 abbrev pub KeepsAtEnd : {S K : Type 0} → (S → Option (List ℕ)) → (K → Kept S) → (manner : Manner K) → (count : ℕ) → (first : Stage K)
-    → (answer : Result End ServeFault) → (links : List Link) → (last : Stage K) → Runs manner count first answer links last → Type 0
+    → (answer : Result RunEnd ServeFault) → (links : List Link) → (last : Stage K) → Runs manner count first answer links last → Type 0
 KeepsAtEnd held part manner count first (Ok end) links last runs = KeepsAt held part last
 KeepsAtEnd held part manner count first (Err fault) links last runs =
     KeepsCurrent held (part last.now.guard) last.config
     (asked_until fault runs.ends.ends.then.scene.gateway last.now.scene.gateway)
 
 -- the second part of the guard of a run keeps the state
-abbrev pub second_part : {S L : Type 0} → Both (Watching L L) (Kept S) → Kept S
+abbrev pub second_part : {S L : Type 0} → BothGuards (Watching L L) (Kept S) → Kept S
 second_part both = both.second
 
 -- If a store is given, the state is kept in it and current at once.
@@ -124,7 +124,7 @@ FirstIsCurrent {S} held = (store : S) (c : Configuration) (w : State) (kept : Ke
 
 -- If it is current at a stage, it is wherever links lead from there: through reloads and events whose datagrams are withheld too.
 abbrev pub RunsKeepCurrent : {S L : Type 0} → (S → Option (List ℕ)) → (L → Option (List ℕ)) → Type 0
-RunsKeepCurrent {S} {L} held log_held = (how : Reporting) (s t : Stage (Both (Watching L L) (Kept S))) (links : List Link) →
+RunsKeepCurrent {S} {L} held log_held = (how : Reporting) (s t : Stage (BothGuards (Watching L L) (Kept S))) (links : List Link) →
     AreLinks (watched_manner_of held log_held how) s links t → KeepsAt held second_part s → KeepsAt held second_part t
 
 -- So a run to which a store is given keeps the state in it to its end.
@@ -159,7 +159,7 @@ abbrev pub IsRecentIn : {S : Type 0} → Kept S → State → Type 0
 IsRecentIn {S} kept w = (k : Keeping S) → kept ≡ In k → IsRecent k.kept (saved_of k.origin w)
 
 abbrev pub RunsKeepRecent : {S L : Type 0} → (S → Option (List ℕ)) → (L → Option (List ℕ)) → Type 0
-RunsKeepRecent {S} {L} held log_held = (how : Reporting) (stops : Bool) (s t : Stage (Both (Watching L L) (Kept S))) (turns : List Turn)
+RunsKeepRecent {S} {L} held log_held = (how : Reporting) (stops : Bool) (s t : Stage (BothGuards (Watching L L) (Kept S))) (turns : List Turn)
     (look : Look) (text : List ℕ) → IsTicked (watched_manner_of held log_held how) stops s turns look text t →
     IsRecentIn t.now.guard.second t.now.scene.gateway
 

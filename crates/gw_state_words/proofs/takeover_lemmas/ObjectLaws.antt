@@ -21,9 +21,9 @@ use Rattle.gw_state.specs.declared.port.SavedPort.{SavedPort}
 use Rattle.gw_state.specs.Saved.{SavedObject, id_of}
 use Rattle.gw_state_words.proofs.takeover_lemmas.Firsts.{absent, firsts}
 use Rattle.gw_state_words.specs.declared.takeover.finding.Absence.{Absence}
-use Rattle.gw_state_words.specs.declared.takeover.finding.Finding.{Finding}
-use Rattle.gw_state_words.specs.declared.takeover.finding.Finding.TheVariants as found
-use Rattle.gw_state_words.specs.declared.takeover.finding.Held.TheVariants.{Default, Slot}
+use Rattle.gw_state_words.specs.declared.takeover.finding.TakeoverFinding.{TakeoverFinding}
+use Rattle.gw_state_words.specs.declared.takeover.finding.TakeoverFinding.TheVariants as found
+use Rattle.gw_state_words.specs.declared.takeover.finding.HeldPlace.TheVariants.{Default, Slot}
 use Rattle.gw_state_words.specs.declared.takeover.finding.ObjectName.{ObjectName}
 use Rattle.gw_state_words.specs.declared.takeover.finding.ValueFate.{ValueFate}
 use Rattle.gw_state_words.specs.declared.takeover.finding.ValueFate.TheVariants as values
@@ -43,7 +43,7 @@ kept_slots name d priority (None ∷ slots) = kept_slots name d (priority + 1) s
 kept_slots name d priority (Some value ∷ slots) =
     by (fits d value) (slot_findings name d (priority + 1) slots) (kept_slots name d (priority + 1) slots)
   where
-    by : (b : Bool) (later : List Finding) → filter_map said_kept later ≡ held_in name (priority + 1) (map (slot_from d) slots)
+    by : (b : Bool) (later : List TakeoverFinding) → filter_map said_kept later ≡ held_in name (priority + 1) (map (slot_from d) slots)
         → filter_map said_kept (value_finding name (Slot priority) value (if b then values.TakenOver else values.OutOfRange) ∷ later)
         ≡ held_in name priority ((if b then Some value else None) ∷ map (slot_from d) slots)
     by true later ih = ap (λ (vs : List SlotValue). (name, priority, value) ∷ vs) ih
@@ -56,7 +56,7 @@ dropped_slots name d priority (None ∷ slots) = dropped_slots name d (priority 
 dropped_slots name d priority (Some value ∷ slots) =
     by (fits d value) (slot_findings name d (priority + 1) slots) (dropped_slots name d (priority + 1) slots)
   where
-    by : (b : Bool) (later : List Finding)
+    by : (b : Bool) (later : List TakeoverFinding)
         → filter_map said_dropped later ≡ lost_in name (priority + 1) slots (map (slot_from d) slots)
         → filter_map said_dropped (value_finding name (Slot priority) value (if b then values.TakenOver else values.OutOfRange) ∷ later)
         ≡ lost_in name priority (Some value ∷ slots) ((if b then Some value else None) ∷ map (slot_from d) slots)
@@ -123,7 +123,7 @@ ports_none number [] saved = refl
 ports_none number (p ∷ ports) saved =
     by (find (is_port p) saved) (port_findings (number + 1) ports saved) (ports_none (number + 1) ports saved)
   where
-    by : (s : Option SavedPort) (later : List Finding) → filter_map said_kept later ≡ []
+    by : (s : Option SavedPort) (later : List TakeoverFinding) → filter_map said_kept later ≡ []
         → filter_map said_kept (port_finding number p s ∷ later) ≡ []
     by None later ih = ih
     by (Some s) later ih = ih
@@ -134,7 +134,7 @@ lost_ports_none ports all place [] = refl
 lost_ports_none ports all place (s ∷ saved) =
     by (port_absence ports (take place all) s) (lost_ports ports all (place + 1) saved) (lost_ports_none ports all (place + 1) saved)
   where
-    by : (a : Option Absence) (later : List Finding) → filter_map said_kept later ≡ []
+    by : (a : Option Absence) (later : List TakeoverFinding) → filter_map said_kept later ≡ []
         → filter_map said_kept
         (option_map_or (λ absence. found.LostPort (port_name s.network s.address) (sizes_of s) absence ∷ []) a [] ++ later) ≡ []
     by None later ih = ih
@@ -147,7 +147,7 @@ lost_objects_none objects all place (s ∷ saved) =
     by (object_absence objects (take place all) s) (lost_objects objects all (place + 1) saved)
     (lost_objects_none objects all (place + 1) saved)
   where
-    by : (a : Option Absence) (later : List Finding) → filter_map said_kept later ≡ []
+    by : (a : Option Absence) (later : List TakeoverFinding) → filter_map said_kept later ≡ []
         → filter_map said_kept
         (option_map_or
         (λ absence. found.LostObject (object_name s.object) (count_by is_some s.slots.slots) (is_written s) absence ∷ []) a [] ++ later)
@@ -160,10 +160,10 @@ routes_none : (c : Configuration) (ports : List SavedPort) (kept routes : Routed
 routes_none c ports kept [] = refl
 routes_none c ports kept (route ∷ routes) = routes_none c ports kept routes
 
-both_none : (xs ys : List Finding) → filter_map said_kept xs ≡ [] → filter_map said_kept ys ≡ [] → filter_map said_kept (xs ++ ys) ≡ []
+both_none : (xs ys : List TakeoverFinding) → filter_map said_kept xs ≡ [] → filter_map said_kept ys ≡ [] → filter_map said_kept (xs ++ ys) ≡ []
 both_none xs ys e f = filter_map-append said_kept xs ys ∙ ap₂ (λ (a b : List SlotValue). a ++ b) e f
 
-skipped : (xs ys : List Finding) → filter_map said_kept xs ≡ [] → filter_map said_kept (xs ++ ys) ≡ filter_map said_kept ys
+skipped : (xs ys : List TakeoverFinding) → filter_map said_kept xs ≡ [] → filter_map said_kept (xs ++ ys) ≡ filter_map said_kept ys
 skipped xs ys e = filter_map-append said_kept xs ys ∙ ap (λ (a : List SlotValue). a ++ filter_map said_kept ys) e
 
 pub slots_are_as_said : SlotsAreAsSaid

@@ -22,10 +22,10 @@ use Rattle.gw_state.specs.Saved.{Saved, SavedObject, id_of}
 use Rattle.gw_codecs.specs.tags.Object.{Object}
 use Rattle.gw_state_words.specs.declared.takeover.finding.Absence.{Absence}
 use Rattle.gw_state_words.specs.declared.takeover.finding.Absence.TheVariants.{NotConfigured, Twice}
-use Rattle.gw_state_words.specs.declared.takeover.finding.Finding.{Finding}
-use Rattle.gw_state_words.specs.declared.takeover.finding.Finding.TheVariants as found
-use Rattle.gw_state_words.specs.declared.takeover.finding.Held.{Held}
-use Rattle.gw_state_words.specs.declared.takeover.finding.Held.TheVariants.{Slot, Default}
+use Rattle.gw_state_words.specs.declared.takeover.finding.TakeoverFinding.{TakeoverFinding}
+use Rattle.gw_state_words.specs.declared.takeover.finding.TakeoverFinding.TheVariants as found
+use Rattle.gw_state_words.specs.declared.takeover.finding.HeldPlace.{HeldPlace}
+use Rattle.gw_state_words.specs.declared.takeover.finding.HeldPlace.TheVariants.{Slot, Default}
 use Rattle.gw_state_words.specs.declared.takeover.finding.ObjectName.{ObjectName}
 use Rattle.gw_state_words.specs.declared.takeover.finding.PortName.{PortName}
 use Rattle.gw_state_words.specs.declared.takeover.finding.RouteFate.{RouteFate}
@@ -60,13 +60,13 @@ table_fate p s =
     else if are_same s.entries s.peers then tables.AsConfigured else tables.OtherPeers
 
 -- a configured port, which was saved or not
-abbrev pub port_finding : ℕ → ConfiguredPort → Option SavedPort → Finding
+abbrev pub port_finding : ℕ → ConfiguredPort → Option SavedPort → TakeoverFinding
 port_finding number p None = found.NewPort number (port_name p.network p.address)
 port_finding number p (Some s) =
     found.Port number (port_name p.network p.address) (sizes_of s) (table_fate p s)
 
 -- the configured ports in order, numbered on from this number
-abbrev pub port_findings : ℕ → List ConfiguredPort → List SavedPort → List Finding
+abbrev pub port_findings : ℕ → List ConfiguredPort → List SavedPort → List TakeoverFinding
 port_findings number [] saved = []
 port_findings number (p ∷ ports) saved =
     port_finding number p (find (is_port p) saved) ∷ port_findings (number + 1) ports saved
@@ -79,14 +79,14 @@ abbrev pub port_absence : List ConfiguredPort → List SavedPort → SavedPort �
 port_absence ports before s =
     absence_of (list_any (λ p. is_port p s) ports) (list_any (is_same_port s) before)
 
-abbrev pub lost_port : List ConfiguredPort → List SavedPort → SavedPort → List Finding
+abbrev pub lost_port : List ConfiguredPort → List SavedPort → SavedPort → List TakeoverFinding
 lost_port ports before s =
     option_map_or
     (λ absence. found.LostPort (port_name s.network s.address) (sizes_of s) absence ∷ [])
     (port_absence ports before s) []
 
 -- the saved ports of which nothing is taken over, in order, of all those after so many
-abbrev pub lost_ports : List ConfiguredPort → List SavedPort → ℕ → List SavedPort → List Finding
+abbrev pub lost_ports : List ConfiguredPort → List SavedPort → ℕ → List SavedPort → List TakeoverFinding
 lost_ports ports all place [] = []
 lost_ports ports all place (s ∷ saved) =
     lost_port ports (take place all) s ++ lost_ports ports all (place + 1) saved
@@ -149,7 +149,7 @@ route_finding c kept saved (Some route) = record {
   fate = route_fate c kept route;
 }
 
-abbrev pub finding_of_route : Configuration → List SavedPort → Routed → ℕ × Route → Finding
+abbrev pub finding_of_route : Configuration → List SavedPort → Routed → ℕ × Route → TakeoverFinding
 finding_of_route c ports kept saved =
     found.Route (route_finding c kept saved (route_from c.ports ports saved))
 
@@ -158,20 +158,20 @@ finding_of_route c ports kept saved =
 abbrev pub object_name : Object → ObjectName
 object_name object = record { kind = object.kind; instance = object.instance }
 
-abbrev pub value_finding : ObjectName → Held → PropertyValue → ValueFate → Finding
+abbrev pub value_finding : ObjectName → HeldPlace → PropertyValue → ValueFate → TakeoverFinding
 value_finding object held value fate =
     found.Value (record { object = object; held = held; value = value; fate = fate })
 
 abbrev pub value_fate : Details → PropertyValue → ValueFate
 value_fate details value = if fits details value then values.TakenOver else values.OutOfRange
 
-abbrev pub slot_finding : ObjectName → Details → ℕ → Option PropertyValue → List Finding
+abbrev pub slot_finding : ObjectName → Details → ℕ → Option PropertyValue → List TakeoverFinding
 slot_finding object details priority None = []
 slot_finding object details priority (Some value) =
     value_finding object (Slot priority) value (value_fate details value) ∷ []
 
 -- the slots that aren't empty, of which the first has this priority
-abbrev pub slot_findings : ObjectName → Details → ℕ → List (Option PropertyValue) → List Finding
+abbrev pub slot_findings : ObjectName → Details → ℕ → List (Option PropertyValue) → List TakeoverFinding
 slot_findings object details priority [] = []
 slot_findings object details priority (slot ∷ slots) =
     slot_finding object details priority slot ++ slot_findings object details (priority + 1) slots
@@ -189,19 +189,19 @@ default_fate_by configured details s =
 abbrev pub default_fate : ConfiguredObject → SavedObject → ValueFate
 default_fate object s = default_fate_by (default_of object.value) (details_of object.value) s
 
-abbrev pub default_finding : ConfiguredObject → SavedObject → List Finding
+abbrev pub default_finding : ConfiguredObject → SavedObject → List TakeoverFinding
 default_finding object s =
     if is_written s
     then value_finding (object_name (id_of object)) Default s.slots.default (default_fate object s) ∷ []
     else []
 
 -- a configured object, which was saved or not
-abbrev pub object_finding : ConfiguredObject → Option SavedObject → List Finding
+abbrev pub object_finding : ConfiguredObject → Option SavedObject → List TakeoverFinding
 object_finding object None = found.NewObject (object_name (id_of object)) ∷ []
 object_finding object (Some s) =
     slot_findings (object_name (id_of object)) (details_of object.value) 1 s.slots.slots ++ default_finding object s
 
-abbrev pub object_findings : List SavedObject → ConfiguredObject → List Finding
+abbrev pub object_findings : List SavedObject → ConfiguredObject → List TakeoverFinding
 object_findings saved object = object_finding object (find (is_object object) saved)
 
 abbrev pub is_same_object : SavedObject → SavedObject → Bool
@@ -212,7 +212,7 @@ abbrev pub object_absence : List ConfiguredObject → List SavedObject → Saved
 object_absence objects before s =
     absence_of (list_any (λ object. is_object object s) objects) (list_any (is_same_object s) before)
 
-abbrev pub lost_object : List ConfiguredObject → List SavedObject → SavedObject → List Finding
+abbrev pub lost_object : List ConfiguredObject → List SavedObject → SavedObject → List TakeoverFinding
 lost_object objects before s =
     option_map_or
     (λ absence.
@@ -220,7 +220,7 @@ lost_object objects before s =
     (object_absence objects before s) []
 
 -- the saved objects of which nothing is taken over, in order, of all those after so many
-abbrev pub lost_objects : List ConfiguredObject → List SavedObject → ℕ → List SavedObject → List Finding
+abbrev pub lost_objects : List ConfiguredObject → List SavedObject → ℕ → List SavedObject → List TakeoverFinding
 lost_objects objects all place [] = []
 lost_objects objects all place (s ∷ saved) =
     lost_object objects (take place all) s ++ lost_objects objects all (place + 1) saved
@@ -229,23 +229,23 @@ lost_objects objects all place (s ∷ saved) =
 
 -- the ports of the configuration, then those of the state that it hasn't; the routes; the objects of the configuration,
 -- then those of the state that it hasn't
-abbrev pub ports_found : Configuration → Saved → List Finding
+abbrev pub ports_found : Configuration → Saved → List TakeoverFinding
 ports_found c s = port_findings 1 c.ports s.ports ++ lost_ports c.ports s.ports 0 s.ports
 
-abbrev pub objects_found : Configuration → Saved → List Finding
+abbrev pub objects_found : Configuration → Saved → List TakeoverFinding
 objects_found c s =
     flat_map (object_findings s.objects) c.objects ++ lost_objects c.objects s.objects 0 s.objects
 
-abbrev pub findings_with : Configuration → Saved → Routed → List Finding
+abbrev pub findings_with : Configuration → Saved → Routed → List TakeoverFinding
 findings_with c s kept =
     ports_found c s ++ (map (finding_of_route c s.ports kept) s.routes ++ objects_found c s)
 
-abbrev pub findings : Configuration → Saved → List Finding
+abbrev pub findings : Configuration → Saved → List TakeoverFinding
 findings c s = findings_with c s (routes_kept c s)
 
 -- what is found, and how many foreign devices and routes are kept
 pub record TakeOver : Type 0 where
-  pub findings : List Finding
+  pub findings : List TakeoverFinding
   pub devices : ℕ
   pub routes : ℕ
 

@@ -19,10 +19,10 @@ use Rattle.gw_state.specs.Carried.{are_same, default_from, is_object, is_port, r
 use Rattle.gw_state.specs.Carried.{tables_carried, tables_from}
 use Rattle.gw_state.specs.declared.port.SavedPort.{SavedPort}
 use Rattle.gw_state.specs.Saved.{Saved, SavedObject, id_of}
-use Rattle.gw_state_words.specs.declared.takeover.finding.Finding.{Finding}
-use Rattle.gw_state_words.specs.declared.takeover.finding.Finding.TheVariants as found
-use Rattle.gw_state_words.specs.declared.takeover.finding.Held.{Held}
-use Rattle.gw_state_words.specs.declared.takeover.finding.Held.TheVariants.{Slot, Default}
+use Rattle.gw_state_words.specs.declared.takeover.finding.TakeoverFinding.{TakeoverFinding}
+use Rattle.gw_state_words.specs.declared.takeover.finding.TakeoverFinding.TheVariants as found
+use Rattle.gw_state_words.specs.declared.takeover.finding.HeldPlace.{HeldPlace}
+use Rattle.gw_state_words.specs.declared.takeover.finding.HeldPlace.TheVariants.{Slot, Default}
 use Rattle.gw_state_words.specs.declared.takeover.finding.ObjectName.{ObjectName}
 use Rattle.gw_state_words.specs.declared.takeover.finding.RouteFate.TheVariants as routes
 use Rattle.gw_state_words.specs.declared.takeover.finding.TableFate.{TableFate}
@@ -54,7 +54,7 @@ abbrev pub peers_at_first : ConfiguredPort → List BdtEntry
 peers_at_first p = if is_some p.bbmd then [] else p.peers
 
 -- the tables that a port has are what is said of it
-abbrev pub AreTablesAsSaid : Finding → ConfiguredPort → Option SavedPort → PortTables → Type 0
+abbrev pub AreTablesAsSaid : TakeoverFinding → ConfiguredPort → Option SavedPort → PortTables → Type 0
 AreTablesAsSaid (found.Port number port sizes table) p (Some s) t =
     (sizes ≡ sizes_of s) × (t.fdt.rows ≡ map row_of (devices_by table s)) × IsTableAsSaid table p s t.bdt
 AreTablesAsSaid (found.NewPort number port) p None t = (t.fdt.rows ≡ []) × (t.bdt ≡ peers_at_first p)
@@ -112,26 +112,26 @@ FullTablesAreFull =
 abbrev pub SlotValue : Type 0
 SlotValue = ObjectName × ℕ × PropertyValue
 
-abbrev pub of_slot : ObjectName → Held → PropertyValue → Option SlotValue
+abbrev pub of_slot : ObjectName → HeldPlace → PropertyValue → Option SlotValue
 of_slot object (Slot priority) value = Some (object, priority, value)
 of_slot object Default value = None
 
-abbrev pub kept_of : ObjectName → Held → PropertyValue → ValueFate → Option SlotValue
+abbrev pub kept_of : ObjectName → HeldPlace → PropertyValue → ValueFate → Option SlotValue
 kept_of object held value values.TakenOver = of_slot object held value
 kept_of object held value values.OutOfRange = None
 kept_of object held value values.OtherDefault = None
 
-abbrev pub dropped_of : ObjectName → Held → PropertyValue → ValueFate → Option SlotValue
+abbrev pub dropped_of : ObjectName → HeldPlace → PropertyValue → ValueFate → Option SlotValue
 dropped_of object held value values.TakenOver = None
 dropped_of object held value values.OutOfRange = of_slot object held value
 dropped_of object held value values.OtherDefault = of_slot object held value
 
 -- the value of a slot that is said to be taken over, or to be dropped
-abbrev pub said_kept : Finding → Option SlotValue
+abbrev pub said_kept : TakeoverFinding → Option SlotValue
 said_kept (found.Value v) = kept_of v.object v.held v.value v.fate
 said_kept _ = None
 
-abbrev pub said_dropped : Finding → Option SlotValue
+abbrev pub said_dropped : TakeoverFinding → Option SlotValue
 said_dropped (found.Value v) = dropped_of v.object v.held v.value v.fate
 said_dropped _ = None
 

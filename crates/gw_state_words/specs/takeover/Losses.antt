@@ -1,9 +1,9 @@
 -- What of a saved state is dropped, by kinds.
 use Rattle.std.specs.Prelude.{ℕ, Bool, not, ◌==◌, ◌&&◌, if◌then◌else◌, Option, Some, None}
-use Rattle.gw_state_words.specs.declared.takeover.finding.Finding.{Finding}
-use Rattle.gw_state_words.specs.declared.takeover.finding.Finding.TheVariants.{Port, NewPort, LostPort, Route, Value, NewObject, LostObject}
-use Rattle.gw_state_words.specs.declared.takeover.finding.Held.{Held}
-use Rattle.gw_state_words.specs.declared.takeover.finding.Held.TheVariants.{Slot, Default}
+use Rattle.gw_state_words.specs.declared.takeover.finding.TakeoverFinding.{TakeoverFinding}
+use Rattle.gw_state_words.specs.declared.takeover.finding.TakeoverFinding.TheVariants.{Port, NewPort, LostPort, Route, Value, NewObject, LostObject}
+use Rattle.gw_state_words.specs.declared.takeover.finding.HeldPlace.{HeldPlace}
+use Rattle.gw_state_words.specs.declared.takeover.finding.HeldPlace.TheVariants.{Slot, Default}
 use Rattle.gw_state_words.specs.declared.takeover.finding.Loss.{Loss}
 use Rattle.gw_state_words.specs.declared.takeover.finding.Loss.TheVariants as losses
 use Rattle.gw_state_words.specs.declared.takeover.finding.RouteFate.{RouteFate}
@@ -28,11 +28,11 @@ abbrev pub route_loss : RouteFate → Option Loss
 route_loss routes.TakenOver = None
 route_loss _ = Some losses.Route
 
-abbrev pub held_loss : Held → Loss
+abbrev pub held_loss : HeldPlace → Loss
 held_loss (Slot priority) = losses.Slot
 held_loss Default = losses.Default
 
-abbrev pub value_loss : Held → ValueFate → Option Loss
+abbrev pub value_loss : HeldPlace → ValueFate → Option Loss
 value_loss held values.TakenOver = None
 value_loss held _ = Some (held_loss held)
 
@@ -41,7 +41,7 @@ abbrev pub object_loss : ℕ → Bool → Option Loss
 object_loss slots default = if (slots == 0) && not default then None else Some losses.Object
 
 -- the kind of what is dropped, or none if nothing is
-abbrev pub loss_of : Finding → Option Loss
+abbrev pub loss_of : TakeoverFinding → Option Loss
 loss_of (Port number port sizes table) = table_loss table sizes
 loss_of (NewPort number port) = None
 loss_of (LostPort port sizes absence) = Some losses.Port

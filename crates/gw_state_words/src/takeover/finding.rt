@@ -87,7 +87,7 @@ pub struct ObjectName {
 
 /// In which place an object held a value.
 #[derive(Clone, Copy, Debug)]
-pub enum Held {
+pub enum HeldPlace {
     /// In the slot of this priority, 1 to 16 (clause 19.2).
     Slot(usize),
     /// In Relinquish_Default.
@@ -111,7 +111,7 @@ pub struct ValueFinding {
     /// The object.
     pub object: ObjectName,
     /// In which place it held the value.
-    pub held: Held,
+    pub held: HeldPlace,
     /// The value.
     pub value: PropertyValue,
     /// Whether it is taken over, or why not.
@@ -120,7 +120,7 @@ pub struct ValueFinding {
 
 /// What is found of one part of a saved state, or of a configuration.
 #[derive(Drop)]
-pub enum Finding {
+pub enum TakeoverFinding {
     /// A configured port, by its number from 1, that was saved.
     Port {
         number: usize,
@@ -174,19 +174,19 @@ pub enum Loss {
     Default,
 }
 
-impl Finding {
+impl TakeoverFinding {
     /// Which kind of thing is dropped, or none if nothing is.
     pub fn loss(&self) -> Option<Loss>
         ensures { result ≡ loss_of self.now }
     {
         match self {
-            Finding::Port { sizes, table, .. } => table.loss(*sizes),
-            Finding::NewPort { .. } => None,
-            Finding::LostPort { .. } => Some(Loss::Port),
-            Finding::Route(route) => route.loss(),
-            Finding::Value(value) => value.loss(),
-            Finding::NewObject(_) => None,
-            Finding::LostObject { slots, default, .. } => lost_object(*slots, *default),
+            TakeoverFinding::Port { sizes, table, .. } => table.loss(*sizes),
+            TakeoverFinding::NewPort { .. } => None,
+            TakeoverFinding::LostPort { .. } => Some(Loss::Port),
+            TakeoverFinding::Route(route) => route.loss(),
+            TakeoverFinding::Value(value) => value.loss(),
+            TakeoverFinding::NewObject(_) => None,
+            TakeoverFinding::LostObject { slots, default, .. } => lost_object(*slots, *default),
         }
     }
 }
@@ -231,8 +231,8 @@ impl ValueFinding {
     {
         match (self.fate, self.held) {
             (ValueFate::TakenOver, _) => None,
-            (_, Held::Slot(_)) => Some(Loss::Slot),
-            (_, Held::Default) => Some(Loss::Default),
+            (_, HeldPlace::Slot(_)) => Some(Loss::Slot),
+            (_, HeldPlace::Default) => Some(Loss::Default),
         }
     }
 }

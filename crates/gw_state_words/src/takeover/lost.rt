@@ -4,7 +4,7 @@ ghost use Rattle.gw_state_words.specs.takeover.Findings.{is_written, lost_object
 
 use crate::takeover::identity::{object_absence, port_absence};
 use crate::takeover::ports::sizes_of;
-use crate::takeover::{Finding, ObjectName, PortName};
+use crate::takeover::{ObjectName, PortName, TakeoverFinding};
 use gw_configuration::{Object, Port};
 use gw_objects::PropertyValue;
 use gw_state::{SavedObject, SavedPort};
@@ -12,7 +12,7 @@ use std::alloc::AllocError;
 
 /// Adds what is found of the saved ports of which nothing is taken over, in order.
 pub(crate) fn add_lost_ports(
-    found: &mut Vec<Finding>,
+    found: &mut Vec<TakeoverFinding>,
     ports: &[Port],
     saved: &[SavedPort],
 ) -> Result<(), AllocError>
@@ -27,7 +27,7 @@ pub(crate) fn add_lost_ports(
 
 /// Adds what is found of a saved port, which has these before it, if nothing of it is taken over.
 fn add_lost_port(
-    found: &mut Vec<Finding>,
+    found: &mut Vec<TakeoverFinding>,
     ports: &[Port],
     before: &[SavedPort],
     saved: &SavedPort,
@@ -36,7 +36,7 @@ fn add_lost_port(
         found.old.items ++ lost_port ports.now before.now saved.now) }
 {
     if let Some(absence) = port_absence(ports, before, saved) {
-        found.push(Finding::LostPort {
+        found.push(TakeoverFinding::LostPort {
             port: PortName::new(saved.network, saved.address),
             sizes: sizes_of(saved),
             absence,
@@ -47,7 +47,7 @@ fn add_lost_port(
 
 /// Adds what is found of the saved objects of which nothing is taken over, in order.
 pub(crate) fn add_lost_objects(
-    found: &mut Vec<Finding>,
+    found: &mut Vec<TakeoverFinding>,
     objects: &[Object],
     saved: &[SavedObject],
 ) -> Result<(), AllocError>
@@ -62,7 +62,7 @@ pub(crate) fn add_lost_objects(
 
 /// Adds what is found of a saved object, which has these before it, if nothing of it is taken over.
 fn add_lost_object(
-    found: &mut Vec<Finding>,
+    found: &mut Vec<TakeoverFinding>,
     objects: &[Object],
     before: &[SavedObject],
     saved: &SavedObject,
@@ -71,7 +71,7 @@ fn add_lost_object(
         found.old.items ++ lost_object objects.now before.now saved.now) }
 {
     if let Some(absence) = object_absence(objects, before, saved) {
-        found.push(Finding::LostObject {
+        found.push(TakeoverFinding::LostObject {
             object: ObjectName::new(saved.object()),
             slots: filled(saved.slots().slots()),
             default: is_written(saved),

@@ -6,7 +6,7 @@ ghost use Rattle.gw_state.specs.Saved.{id_of};
 ghost use Rattle.gw_state_words.specs.takeover.Findings.{default_fate_by, default_finding, object_finding, object_findings, object_name, slot_finding, slot_findings, value_fate, value_finding};
 
 use crate::takeover::lost::is_written;
-use crate::takeover::{Finding, Held, ObjectName, ValueFate, ValueFinding};
+use crate::takeover::{HeldPlace, ObjectName, TakeoverFinding, ValueFate, ValueFinding};
 use gw_configuration::{Object, ObjectValue};
 use gw_objects::PropertyValue;
 use gw_state::{SavedObject, id_of, object_saved};
@@ -14,7 +14,7 @@ use std::alloc::AllocError;
 
 /// Adds what is found of the configured objects, in order.
 pub(crate) fn add_objects(
-    found: &mut Vec<Finding>,
+    found: &mut Vec<TakeoverFinding>,
     objects: &[Object],
     saved: &[SavedObject],
 ) -> Result<(), AllocError>
@@ -29,7 +29,7 @@ pub(crate) fn add_objects(
 
 /// Adds what is found of a configured object, which was saved or not.
 fn add_object(
-    found: &mut Vec<Finding>,
+    found: &mut Vec<TakeoverFinding>,
     object: &Object,
     saved: Option<&SavedObject>,
 ) -> Result<(), AllocError>
@@ -37,7 +37,7 @@ fn add_object(
         found.old.items ++ object_finding object.now (option_copied saved.entry)) }
 {
     let Some(saved) = saved else {
-        found.push(Finding::NewObject(name_of(object)))?;
+        found.push(TakeoverFinding::NewObject(name_of(object)))?;
         return Ok(());
     };
     add_slots(found, name_of(object), &object.value, saved.slots().slots())?;
@@ -52,7 +52,7 @@ fn name_of(object: &Object) -> ObjectName
 
 /// Adds what is found of the slots that aren't empty.
 fn add_slots(
-    found: &mut Vec<Finding>,
+    found: &mut Vec<TakeoverFinding>,
     name: ObjectName,
     object: &ObjectValue,
     slots: &[Option<PropertyValue>],
@@ -68,7 +68,7 @@ fn add_slots(
 
 /// Adds what is found of the slot of this priority if it isn't empty.
 fn add_slot(
-    found: &mut Vec<Finding>,
+    found: &mut Vec<TakeoverFinding>,
     name: ObjectName,
     object: &ObjectValue,
     priority: usize,
@@ -81,7 +81,7 @@ fn add_slot(
         Some(value) => add_value(
             found,
             name,
-            Held::Slot(priority),
+            HeldPlace::Slot(priority),
             value,
             value_fate(object, value),
         ),
@@ -91,9 +91,9 @@ fn add_slot(
 
 /// Adds what is found of a value.
 fn add_value(
-    found: &mut Vec<Finding>,
+    found: &mut Vec<TakeoverFinding>,
     object: ObjectName,
-    held: Held,
+    held: HeldPlace,
     value: &PropertyValue,
     fate: ValueFate,
 ) -> Result<(), AllocError>
@@ -101,7 +101,7 @@ fn add_value(
         found.old.items ++ value_finding object held value.now fate ∷ []) }
 {
     let value = value.copy(*found.allocator())?;
-    found.push(Finding::Value(ValueFinding {
+    found.push(TakeoverFinding::Value(ValueFinding {
         object,
         held,
         value,
@@ -122,7 +122,7 @@ fn value_fate(object: &ObjectValue, value: &PropertyValue) -> ValueFate
 
 /// Adds what is found of the default if it was written.
 fn add_default(
-    found: &mut Vec<Finding>,
+    found: &mut Vec<TakeoverFinding>,
     object: &Object,
     saved: &SavedObject,
 ) -> Result<(), AllocError>
@@ -136,7 +136,7 @@ fn add_default(
     add_value(
         found,
         name_of(object),
-        Held::Default,
+        HeldPlace::Default,
         saved.slots().default(),
         fate,
     )

@@ -3,14 +3,14 @@ ghost use Rattle.std.specs.Prelude.{◌≡◌, ◌≤◌, ◌++◌, length, opti
 ghost use Rattle.gw_addr.specs.declared.TheConstants.{MAX_PORTS};
 ghost use Rattle.gw_state_words.specs.takeover.Findings.{device_count, devices_kept, devices_of, port_finding, port_findings, sizes_of, table_fate};
 
-use crate::takeover::{Finding, PortName, Sizes, TableFate};
+use crate::takeover::{PortName, Sizes, TableFate, TakeoverFinding};
 use gw_configuration::Port;
 use gw_state::{SavedPort, are_same, port_saved};
 use std::alloc::AllocError;
 
 /// Adds what is found of the configured ports, in order.
 pub(crate) fn add_ports(
-    found: &mut Vec<Finding>,
+    found: &mut Vec<TakeoverFinding>,
     ports: &[Port],
     saved: &[SavedPort],
 ) -> Result<(), AllocError>
@@ -23,18 +23,18 @@ pub(crate) fn add_ports(
 }
 
 /// What is found of the configured port of this number, which was saved or not.
-fn port_finding(number: usize, port: &Port, saved: Option<&SavedPort>) -> Finding
+fn port_finding(number: usize, port: &Port, saved: Option<&SavedPort>) -> TakeoverFinding
     ensures { result ≡ port_finding number port.now (option_copied saved.entry) }
 {
     let name = PortName::new(port.network, port.address);
     match saved {
-        Some(saved) => Finding::Port {
+        Some(saved) => TakeoverFinding::Port {
             number,
             port: name,
             sizes: sizes_of(saved),
             table: table_fate(port, saved),
         },
-        None => Finding::NewPort { number, port: name },
+        None => TakeoverFinding::NewPort { number, port: name },
     }
 }
 

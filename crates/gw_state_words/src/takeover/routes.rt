@@ -3,7 +3,7 @@ ghost use Rattle.std.specs.Prelude.{◌≡◌, ◌++◌, find, map, nat_eq, opti
 ghost use Rattle.std.specs.List.{list_any};
 ghost use Rattle.gw_state_words.specs.takeover.Findings.{fate_beside, finding_of_route, is_own, is_routed, is_same_route, refusal, route_fate, route_finding, routes_kept};
 
-use crate::takeover::{Finding, RouteFate, RouteFinding};
+use crate::takeover::{RouteFate, RouteFinding, TakeoverFinding};
 use gw_addr::NetNum;
 use gw_configuration::{Config, Port, Route as ConfiguredRoute};
 use gw_relay::first_table;
@@ -27,7 +27,7 @@ pub(crate) fn routes_kept(
 
 /// Adds what is found of the learned routes, in order, if these are kept.
 pub(crate) fn add_routes(
-    found: &mut Vec<Finding>,
+    found: &mut Vec<TakeoverFinding>,
     config: &Config,
     saved: &Saved,
     kept: &[(NetNum, Route)],
@@ -47,11 +47,11 @@ fn finding_of_route(
     ports: &[SavedPort],
     kept: &[(NetNum, Route)],
     learned: &(NetNum, Route),
-) -> Finding
+) -> TakeoverFinding
     ensures { result ≡ finding_of_route config.now ports.now kept.now learned.now }
 {
     let now = route_from(config.ports(), ports, *learned);
-    Finding::Route(route_finding(config, kept, learned, now))
+    TakeoverFinding::Route(route_finding(config, kept, learned, now))
 }
 
 /// What is found of a learned route, which is this one now or by no port that is there.

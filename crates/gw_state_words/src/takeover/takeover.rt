@@ -4,7 +4,7 @@ ghost use Rattle.std.specs.List.{flat_map};
 ghost use Rattle.gw_tables.specs.routes.Table.{Routed};
 ghost use Rattle.gw_state_words.specs.takeover.Findings.{findings_with, lost_objects, lost_ports, object_findings, port_findings, take_over};
 
-use crate::takeover::Finding;
+use crate::takeover::TakeoverFinding;
 use crate::takeover::lost::{add_lost_objects, add_lost_ports};
 use crate::takeover::objects::add_objects;
 use crate::takeover::ports::{add_ports, devices_kept};
@@ -19,7 +19,7 @@ use std::marker::Model;
 /// What a gateway of a configuration takes over of a saved state: what is found of each part, and how many
 /// foreign devices and learned routes it takes over. It lends nothing of the state. Contracts see the parts.
 pub struct TakeOver {
-    findings: Vec<Finding>,
+    findings: Vec<TakeoverFinding>,
     devices: usize,
     routes: usize,
 }
@@ -52,7 +52,7 @@ impl TakeOver {
     /// it hasn't; the learned routes; the objects of the configuration, then those of the state that it
     /// hasn't. Of an object it has the slots that aren't empty, by priority, and its default if that was
     /// written.
-    pub fn findings(&self) -> &[Finding]
+    pub fn findings(&self) -> &[TakeoverFinding]
         ensures { result.now ≡ self.now.findings }
     {
         self.findings.as_slice()
@@ -92,7 +92,7 @@ fn findings(
     config: &Config,
     saved: &Saved,
     kept: &[(NetNum, Route)],
-) -> Result<Vec<Finding>, AllocError>
+) -> Result<Vec<TakeoverFinding>, AllocError>
     ensures { IfOk result (λ found. found.items ≡ findings_with config.now saved.now kept.now) }
 {
     let mut found = Vec::new(alloc);
@@ -103,7 +103,7 @@ fn findings(
 }
 
 fn add_both_ports(
-    found: &mut Vec<Finding>,
+    found: &mut Vec<TakeoverFinding>,
     ports: &[Port],
     saved: &[SavedPort],
 ) -> Result<(), AllocError>
@@ -115,7 +115,7 @@ fn add_both_ports(
 }
 
 fn add_both_objects(
-    found: &mut Vec<Finding>,
+    found: &mut Vec<TakeoverFinding>,
     objects: &[Object],
     saved: &[SavedObject],
 ) -> Result<(), AllocError>

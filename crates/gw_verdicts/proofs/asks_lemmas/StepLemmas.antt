@@ -12,8 +12,8 @@ use Rattle.gw_script.specs.Script.{lines_of, onto_first}
 use Rattle.gw_script.specs.declared.reader.NextLine.TheVariants.{Line}
 use Rattle.gw_log_words.specs.Fields.{fields_of, shows_ask}
 use Rattle.gw_verdicts.specs.asks.Asks.{ended, shown_by, shown_in, unread_of}
-use Rattle.gw_verdicts.specs.declared.asks.cursor.Place.{Place}
-use Rattle.gw_verdicts.specs.declared.asks.cursor.Place.TheVariants.{Start, Passed, Fields}
+use Rattle.gw_verdicts.specs.declared.asks.cursor.LinePlace.{LinePlace}
+use Rattle.gw_verdicts.specs.declared.asks.cursor.LinePlace.TheVariants.{Start, Passed, Fields}
 use Rattle.gw_verdicts.specs.asks.Position.{GivesFront, IsBetween, Rest, rest_of}
 
 -- ---- the first of some lines
@@ -163,7 +163,7 @@ module _ (n count : ℕ) (unread after rest : List ℕ) (taken : after ≡ drop 
             ∙ ap (λ (k : ℕ). min (n + k) (2 ^ 64 - 1)) (sym (ap unread_of long.lines ∙ count_none long.line long.others shown)),
       )
 
-  pub passes_between : (place : Place) → IsBetween place → (place ≡ Start → ⊥)
+  pub passes_between : (place : LinePlace) → IsBetween place → (place ≡ Start → ⊥)
       → GivesFront (Some (rest_of place n (unread ++ rest))) (Some (rest_of place n (after ++ rest))) []
   passes_between Start between other = absurd (other refl)
   passes_between Passed between other = passes_more
@@ -272,7 +272,7 @@ gives_then (Some a) (Some b) None front h k = absurd k
 gives_then (Some a) (Some b) (Some c) front h k = (h.0 ∙ k.0, k.1 ∙ h.1)
 
 -- what is read from a source stays the same text
-pub kept_text : (place : Place) (n : ℕ) (a b : Option (List ℕ)) → Keeps a b
+pub kept_text : (place : LinePlace) (n : ℕ) (a b : Option (List ℕ)) → Keeps a b
     → GivesFront (option_map (rest_of place n) a) (option_map (rest_of place n) b) []
 kept_text place n None b h = tt
 kept_text place n (Some xs) None h = absurd h

@@ -18,12 +18,12 @@ use Rattle.gw_log_words.specs.Words.{words}
 use Rattle.gw_relay.specs.Sends.{Batch, Sending}
 use Rattle.gw_rules.specs.declared.rule.Rule.{Rule}
 use Rattle.gw_script.specs.Event.{Event}
-use Rattle.gw_verdicts.specs.declared.questions.answer.Outcome.{Outcome}
-use Rattle.gw_verdicts.specs.declared.questions.answer.Outcome.TheVariants as outcome
+use Rattle.gw_verdicts.specs.declared.questions.answer.AnswerKind.{AnswerKind}
+use Rattle.gw_verdicts.specs.declared.questions.answer.AnswerKind.TheVariants as outcome
 use Rattle.gw_verdicts.specs.declared.questions.place.Question.{Question}
 use Rattle.gw_verdicts.specs.declared.questions.place.Station.{Station}
-use Rattle.gw_verdicts.specs.declared.questions.place.Target.{Target}
-use Rattle.gw_verdicts.specs.declared.questions.place.Target.TheVariants as target
+use Rattle.gw_verdicts.specs.declared.questions.place.Addressee.{Addressee}
+use Rattle.gw_verdicts.specs.declared.questions.place.Addressee.TheVariants as target
 use Rattle.gw_verdicts.specs.questions.Datagrams.{answer_event, request_event}
 use Rattle.gw_verdicts.specs.questions.Refusals.{is_refusal}
 
@@ -98,7 +98,7 @@ is_answered w q station = reaches q.asker (effects_at w (answer_event q station)
 
 -- after a request for which this is sent: it reaches the station that is asked, and the answer to it the asker; or the
 -- gateway's own device serves it
-abbrev pub may_after : State → Question → List Sending → Target → Bool
+abbrev pub may_after : State → Question → List Sending → Addressee → Bool
 may_after w q sends (target.Station station) = reaches station sends && is_answered w q station
 may_after w q sends (target.Device network) = serves q.asker sends
 
@@ -106,7 +106,7 @@ may_after w q sends (target.Device network) = serves q.asker sends
 abbrev pub may : State → Question → Bool
 may w q = let e = request_event q in may_after (next w e) q (effects_at w e).sends q.target
 
-abbrev pub outcome_of : Bool → Outcome
+abbrev pub outcome_of : Bool → AnswerKind
 outcome_of is_yes = if is_yes then outcome.Yes else outcome.No
 
 -- ---- the last line
@@ -146,7 +146,7 @@ served_text rules asker asked sends =
     if serves asker sends then yes_line else no_line (codes "no: ") rules asked (codes "the device refuses it")
 
 -- what comes of a request that asked and sent this, from the state after it
-abbrev pub rest_text : State → Question → List Asked → List Sending → Target → List ℕ
+abbrev pub rest_text : State → Question → List Asked → List Sending → Addressee → List ℕ
 rest_text w q asked sends (target.Station station) =
     if reaches station sends then answered_text w q station
     else no_line (codes "no: ") w.rules asked (codes "no way there")

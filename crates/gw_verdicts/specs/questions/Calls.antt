@@ -17,7 +17,7 @@ use Rattle.gw_frames.specs.npdu.Npdu as npdu
 use Rattle.gw_relay.specs.Sends.{Batch, Sending}
 use Rattle.gw_rules.specs.declared.rule.Rule.{Rule}
 use Rattle.gw_script.specs.Event.{Event}
-use Rattle.gw_verdicts.specs.declared.questions.answer.Outcome.{Outcome}
+use Rattle.gw_verdicts.specs.declared.questions.answer.AnswerKind.{AnswerKind}
 use Rattle.gw_verdicts.specs.declared.questions.call.Audience.{Audience}
 use Rattle.gw_verdicts.specs.declared.questions.call.Audience.TheVariants as audience
 use Rattle.gw_verdicts.specs.declared.questions.call.Call.{Call}
@@ -116,7 +116,7 @@ call_text w q =
     ++ end_text (next w e).rules q (asked_at w e) (effects_at w e).sends
 
 -- by a gateway of a configuration that has taken nothing yet
-pub record IsCallAnswer (c : Configuration) (q : Call) (text : List ℕ) (end : Outcome) : Type 0 where
+pub record IsCallAnswer (c : Configuration) (q : Call) (text : List ℕ) (end : AnswerKind) : Type 0 where
   pub lines : text ≡ call_text (state_after c no_counts []) q
   pub outcome : end ≡ outcome_of (may_call (state_after c no_counts []) q)
 

@@ -7,8 +7,8 @@ use Rattle.gw_codecs.specs.services.Read.{Read, read_view}
 use Rattle.gw_codecs.specs.services.Write.{Write, write_view}
 use Rattle.gw_verdicts.specs.declared.questions.deed.Deed.{Deed}
 use Rattle.gw_verdicts.specs.declared.questions.deed.Deed.TheVariants as deed
-use Rattle.gw_verdicts.specs.declared.questions.deed.DeedWords.{DeedWords}
-use Rattle.gw_verdicts.specs.declared.questions.deed.DeedWords.TheVariants as said
+use Rattle.gw_verdicts.specs.declared.questions.deed.DeedInWords.{DeedInWords}
+use Rattle.gw_verdicts.specs.declared.questions.deed.DeedInWords.TheVariants as said
 use Rattle.gw_verdicts.specs.declared.questions.fault.Unasked.{Unasked}
 use Rattle.gw_verdicts.specs.declared.questions.fault.Unasked.TheVariants as unasked
 use Rattle.gw_verdicts.specs.questions.Read.{IsNumberIn, Text, parted}
@@ -19,7 +19,7 @@ pub data DeedText : Type 0 where
   to_write : (object : Text) (priority : Option Text) → DeedText
   to_serve : (service : Text) → DeedText
 
-abbrev pub deed_text : DeedWords → DeedText
+abbrev pub deed_text : DeedInWords → DeedText
 deed_text (said.Read object) = to_read object.now
 deed_text (said.Write object priority) = to_write object.now (option_map (λ text. text.now) priority)
 deed_text (said.Serve service) = to_serve service.now

@@ -15,11 +15,11 @@ use Rattle.gw_verdicts.specs.declared.questions.fault.PlaceFault.TheVariants as 
 use Rattle.gw_verdicts.specs.declared.questions.place.Spelled.{Spelled}
 use Rattle.gw_verdicts.specs.declared.questions.place.Spelled.TheVariants as spelled
 use Rattle.gw_verdicts.specs.declared.questions.place.Station.{Station}
-use Rattle.gw_verdicts.specs.declared.questions.place.Target.{Target}
-use Rattle.gw_verdicts.specs.declared.questions.place.Target.TheVariants as target
+use Rattle.gw_verdicts.specs.declared.questions.place.Addressee.{Addressee}
+use Rattle.gw_verdicts.specs.declared.questions.place.Addressee.TheVariants as target
 
 -- the network of who is asked, and the address there: the gateway's own device is one station of its network
-abbrev pub place_of : Target → Source
+abbrev pub place_of : Addressee → Source
 place_of (target.Station station) = station.place
 place_of (target.Device network) = record { net = network; mac = device_station ∷ [] }
 

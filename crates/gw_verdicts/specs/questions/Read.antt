@@ -19,8 +19,8 @@ use Rattle.gw_verdicts.specs.declared.questions.fault.PlaceFault.TheVariants as 
 use Rattle.gw_verdicts.specs.declared.questions.place.Spelled.{Spelled}
 use Rattle.gw_verdicts.specs.declared.questions.place.Spelled.TheVariants as spelled
 use Rattle.gw_verdicts.specs.declared.questions.place.Station.{Station}
-use Rattle.gw_verdicts.specs.declared.questions.place.Target.{Target}
-use Rattle.gw_verdicts.specs.declared.questions.place.Target.TheVariants as target
+use Rattle.gw_verdicts.specs.declared.questions.place.Addressee.{Addressee}
+use Rattle.gw_verdicts.specs.declared.questions.place.Addressee.TheVariants as target
 use Rattle.gw_verdicts.specs.questions.Places.{station_at, station_on}
 
 -- ---- texts
@@ -108,20 +108,20 @@ abbrev pub IsStationOf : Configuration → Text → Result Station PlaceFault �
 IsStationOf c text station =
     (named : Option (ℕ × Text)) × IsNetworkBefore (parted 58 text) named × IsStationBy c text named station
 
-abbrev pub target_by : Result Station PlaceFault → Result Target PlaceFault
+abbrev pub target_by : Result Station PlaceFault → Result Addressee PlaceFault
 target_by (Ok station) = Ok (target.Station station)
 target_by (Err f) = Err f
 
 -- whom a text names: `device`, which is the gateway's own, or a station
-abbrev pub IsTargetBy : Configuration → Text → (is_device : Bool) → Result Target PlaceFault → Type 0
+abbrev pub IsTargetBy : Configuration → Text → (is_device : Bool) → Result Addressee PlaceFault → Type 0
 IsTargetBy c text true whom = whom ≡ Ok (target.Device c.device.network)
 IsTargetBy c text false whom =
     (station : Result Station PlaceFault) × IsStationOf c text station × (whom ≡ target_by station)
 
-abbrev pub IsTargetOf : Configuration → Text → Result Target PlaceFault → Type 0
+abbrev pub IsTargetOf : Configuration → Text → Result Addressee PlaceFault → Type 0
 IsTargetOf c text whom = IsTargetBy c text (pointwise nat_eq text (codes "device")) whom
 
 -- whom a text names, if there is one
-abbrev pub IsTargetIn : Configuration → Option Text → Result Target PlaceFault → Type 0
+abbrev pub IsTargetIn : Configuration → Option Text → Result Addressee PlaceFault → Type 0
 IsTargetIn c (Some text) whom = IsTargetOf c text whom
 IsTargetIn c None whom = whom ≡ Err fault.Nobody

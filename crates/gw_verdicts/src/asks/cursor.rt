@@ -3,7 +3,7 @@
 ghost use Rattle.std.specs.Prelude.{◌≡◌, ◌≤◌, ◌<◌, ◌++◌, [], ℕ, List, Option, Some, length, take, IfOk, true, false};
 ghost use Rattle.gw_script.specs.Reader.{BeginsLong, IsNextLine};
 ghost use Rattle.gw_script.specs.declared.reader.NextLine.TheVariants.{Line};
-ghost use Rattle.gw_verdicts.specs.declared.asks.cursor.Place.TheVariants as place;
+ghost use Rattle.gw_verdicts.specs.declared.asks.cursor.LinePlace.TheVariants as place;
 ghost use Rattle.gw_verdicts.specs.asks.Position.{GivesFront, IsBetween, IsDone, rest_at};
 
 use crate::asks::nothing::Nothing;
@@ -16,7 +16,7 @@ const MAX_LINE: usize = 4096;
 
 /// Where in a line the reading is.
 #[derive(Clone, Copy)]
-pub(crate) enum Place {
+pub(crate) enum LinePlace {
     /// At its start.
     Start,
     /// In a line of more than 4096 octets, which is passed over.
@@ -36,7 +36,7 @@ pub(crate) enum Place {
 #[derive(Drop)]
 pub(crate) struct Cursor {
     lines: LineReader,
-    place: Place,
+    place: LinePlace,
     unread: u64,
 }
 
@@ -72,7 +72,7 @@ impl Cursor {
     {
         Cursor {
             lines: LineReader::new(),
-            place: Place::Start,
+            place: LinePlace::Start,
             unread: 0,
         }
     }
@@ -91,7 +91,7 @@ impl Cursor {
         ensures front { (left : Option (List ℕ)) →
             GivesFront (rest_at self.old left) (rest_at self.new left) (take result buffer.new) }
     {
-        let Place::Fields { next, len, span } = self.place else {
+        let LinePlace::Fields { next, len, span } = self.place else {
             return 0;
         };
         if buffer.is_empty() {
@@ -101,12 +101,12 @@ impl Cursor {
         if fields.is_empty() {
             buffer[0] = b'\n';
             self.lines.consume(span);
-            self.place = Place::Start;
+            self.place = LinePlace::Start;
             return 1;
         }
         let count = fields.len().min(buffer.len());
         buffer[..count].copy_from_slice(&fields[..count]);
-        self.place = Place::Fields {
+        self.place = LinePlace::Fields {
             next: next + count,
             len,
             span,
@@ -119,7 +119,7 @@ impl Cursor {
         ensures kept { GivesFront (rest_at self.old (S.left source.old)) (rest_at self.new (S.left source.new)) [] }
         ensures done { IfOk result (λ goes. goes ≡ false → IsDone (rest_at self.new (S.left source.new)) self.new.unread) }
     {
-        if let Place::Fields { .. } = self.place {
+        if let LinePlace::Fields { .. } = self.place {
             return Ok(true);
         }
         match self.lines.find_line(source)? {
@@ -144,13 +144,13 @@ impl Cursor {
         ensures { (rest : List ℕ) → IsNextLine self.old.lines.unread rest (Line len span) →
             GivesFront (rest_at self.old (Some rest)) (rest_at self.new (Some rest)) [] }
     {
-        if let Place::Passed = self.place {
+        if let LinePlace::Passed = self.place {
             self.lines.consume(span);
-            self.place = Place::Start;
+            self.place = LinePlace::Start;
             return;
         }
         match ask_front(self.lines.front(len)) {
-            Some(next) => self.place = Place::Fields { next, len, span },
+            Some(next) => self.place = LinePlace::Fields { next, len, span },
             None => {
                 self.lines.consume(span);
                 self.unread = self.unread.saturating_add(1);
@@ -166,8 +166,8 @@ impl Cursor {
     {
         let count = long_front(&mut self.lines);
         self.lines.consume(count);
-        if let Place::Start = self.place {
-            self.place = Place::Passed;
+        if let LinePlace::Start = self.place {
+            self.place = LinePlace::Passed;
             self.unread = self.unread.saturating_add(1);
         }
     }

@@ -13,7 +13,7 @@ ghost use Rattle.gw_verdicts.specs.questions.Refusals.{denies, is_refusal, messa
 ghost use Rattle.gw_verdicts.specs.questions.Words.{IsAnswer};
 
 use crate::questions::datagram::{make_answer, make_request};
-use crate::questions::place::{Question, Station, Target};
+use crate::questions::place::{Addressee, Question, Station};
 use crate::questions::step::{put_way, take};
 use gw_addr::{BipAddr, put_octet, put_slice};
 use gw_codecs::apdu::{Header, decode as decode_apdu};
@@ -31,16 +31,16 @@ const WRITE_DENIED: [u8; 4] = [0x91, 2, 0x91, 40];
 
 /// The answer to a question.
 #[derive(Drop)]
-pub struct Answer {
+pub struct QuestionAnswer {
     /// Its text.
     pub text: Vec<u8>,
     /// Which it is.
-    pub outcome: Outcome,
+    pub outcome: AnswerKind,
 }
 
 /// Which answer it is.
 #[derive(Clone, Copy)]
-pub enum Outcome {
+pub enum AnswerKind {
     /// The station may do it.
     Yes,
     /// It may not.
@@ -272,8 +272,8 @@ fn put_rest(
 {
     let rules = gateway.rules();
     let station = match &question.target {
-        Target::Station(station) => station,
-        Target::Device(_) => return put_served(rules, &question.asker, request, text),
+        Addressee::Station(station) => station,
+        Addressee::Device(_) => return put_served(rules, &question.asker, request, text),
     };
     if reaches(station, &request.taken.effects.sends) {
         return put_answered(alloc, gateway, question, station, text);
@@ -306,10 +306,14 @@ fn put_question(
 }
 
 /// Which answer it is.
-pub fn outcome_of(is_yes: bool) -> Outcome
+pub fn outcome_of(is_yes: bool) -> AnswerKind
     ensures { result ≡ outcome_of is_yes }
 {
-    if is_yes { Outcome::Yes } else { Outcome::No }
+    if is_yes {
+        AnswerKind::Yes
+    } else {
+        AnswerKind::No
+    }
 }
 
 /// The answer to a question by a gateway of this configuration that has taken nothing yet. An `Err` only if a growth of memory
@@ -318,13 +322,13 @@ pub fn answer_question(
     alloc: Global,
     config: Config,
     question: &Question<'_>,
-) -> Result<Answer, AllocError>
+) -> Result<QuestionAnswer, AllocError>
     ensures { IfOk result (λ answer. IsAnswer config question.now answer.text.items answer.outcome) }
 {
     let mut gateway = Gateway::new(alloc, config, Counts::default())?;
     let mut text = Vec::new(alloc);
     let is_yes = put_question(alloc, &mut gateway, question, &mut text)?;
-    Ok(Answer {
+    Ok(QuestionAnswer {
         text,
         outcome: outcome_of(is_yes),
     })

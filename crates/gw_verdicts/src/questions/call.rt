@@ -6,7 +6,7 @@ ghost use Rattle.gw_frames.specs.npdu.Npdu as npdus;
 ghost use Rattle.gw_verdicts.specs.questions.Calls.{accepts, batch_accepts, batch_hears, hears};
 ghost use Rattle.gw_verdicts.specs.questions.Calls.{IsAudienceIn, IsCallAnswer, IsRegistrationOf, IsWhoIsOf, all_hear, asker_of, audience_at, audience_of, call_octets, call_text, end_text, is_done, is_heard, may_call, port_of_network, registration_by, who_is_from, who_is_octets, who_is_to, why_of};
 
-use crate::questions::answer::{Answer, event_of, outcome_of, put_no, reaches};
+use crate::questions::answer::{QuestionAnswer, event_of, outcome_of, put_no, reaches};
 use crate::questions::datagram::{carried, datagram_of, framed, source_of};
 use crate::questions::fault::{PlaceFault, Unasked};
 use crate::questions::place::{Station, network_in, place_on, route_to, station_of};
@@ -232,13 +232,17 @@ fn put_call(
 
 /// The answer to a question by a gateway of this configuration that has taken nothing yet. An `Err` only if a growth of memory
 /// was refused.
-pub fn answer_call_by(alloc: Global, config: Config, call: &Call) -> Result<Answer, AllocError>
+pub fn answer_call_by(
+    alloc: Global,
+    config: Config,
+    call: &Call,
+) -> Result<QuestionAnswer, AllocError>
     ensures { IfOk result (λ answer. IsCallAnswer config call.now answer.text.items answer.outcome) }
 {
     let mut gateway = Gateway::new(alloc, config, Counts::default())?;
     let mut text = Vec::new(alloc);
     let is_yes = put_call(alloc, &mut gateway, call, &mut text)?;
-    Ok(Answer {
+    Ok(QuestionAnswer {
         text,
         outcome: outcome_of(is_yes),
     })

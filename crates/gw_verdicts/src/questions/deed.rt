@@ -42,7 +42,7 @@ pub enum Deed<'a> {
 
 /// What a station asks for, in words.
 #[derive(Clone, Copy)]
-pub enum DeedWords<'a> {
+pub enum DeedInWords<'a> {
     /// To read this.
     Read(&'a str),
     /// To write this, at this priority if one is given.
@@ -186,12 +186,12 @@ fn deed_of_service(number: Option<u64>) -> Result<Deed<'static>, Unasked>
 
 /// What words ask for: the type of an object, its instance and a property, with commas between; without a property it is
 /// present-value. A type, a property or a service is a name or a number.
-pub fn deed_of(words: &DeedWords<'_>) -> Result<Deed<'static>, Unasked>
+pub fn deed_of(words: &DeedInWords<'_>) -> Result<Deed<'static>, Unasked>
     ensures { IsDeedOf (deed_text words.now) (result_of deed_view result) }
 {
     match words {
-        DeedWords::Read(object) => deed_to_read(read_in(object)),
-        DeedWords::Write(object, priority) => deed_to_write(read_in(object), *priority),
-        DeedWords::Serve(service) => deed_of_service(number_or(service_number(service), service)),
+        DeedInWords::Read(object) => deed_to_read(read_in(object)),
+        DeedInWords::Write(object, priority) => deed_to_write(read_in(object), *priority),
+        DeedInWords::Serve(service) => deed_of_service(number_or(service_number(service), service)),
     }
 }

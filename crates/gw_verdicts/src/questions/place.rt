@@ -40,7 +40,7 @@ pub struct Station {
 
 /// Who is asked.
 #[derive(Clone, Copy)]
-pub enum Target {
+pub enum Addressee {
     /// A station of another network.
     Station(Station),
     /// The gateway's own device, on its network.
@@ -53,7 +53,7 @@ pub struct Question<'a> {
     /// Who asks.
     pub asker: Station,
     /// Who is asked.
-    pub target: Target,
+    pub target: Addressee,
     /// What is asked for.
     pub deed: Deed<'a>,
 }
@@ -339,20 +339,20 @@ pub fn station_of(config: &Config, text: &str) -> Result<Station, PlaceFault>
 }
 
 /// Whom a text names: the gateway's own `device`, or a station.
-pub fn target_of(config: &Config, text: &str) -> Result<Target, PlaceFault>
+pub fn target_of(config: &Config, text: &str) -> Result<Addressee, PlaceFault>
     ensures { IsTargetOf config.now text.now result }
 {
     if text == DEVICE {
-        return Ok(Target::Device(config.device().network));
+        return Ok(Addressee::Device(config.device().network));
     }
     match station_of(config, text) {
-        Ok(station) => Ok(Target::Station(station)),
+        Ok(station) => Ok(Addressee::Station(station)),
         Err(fault) => Err(fault),
     }
 }
 
 /// Whom a text names, if there is one.
-pub fn target_in(config: &Config, text: Option<&str>) -> Result<Target, PlaceFault>
+pub fn target_in(config: &Config, text: Option<&str>) -> Result<Addressee, PlaceFault>
     ensures { IsTargetIn config.now (option_map (λ t. t.now) text.entry) result }
 {
     match text {
@@ -361,14 +361,14 @@ pub fn target_in(config: &Config, text: Option<&str>) -> Result<Target, PlaceFau
     }
 }
 
-impl Target {
+impl Addressee {
     /// Its network, and its address there.
     pub fn place(self) -> Source
         ensures { result ≡ place_of self }
     {
         match self {
-            Target::Station(station) => station.place,
-            Target::Device(network) => Source {
+            Addressee::Station(station) => station.place,
+            Addressee::Device(network) => Source {
                 net: network,
                 mac: Mac::new(&DEVICE_STATION).unwrap(),
             },

@@ -6,18 +6,18 @@ ghost use Rattle.gw_verdicts.specs.questions.Unasked.{place_words, unasked_text}
 ghost use Rattle.gw_verdicts.specs.questions.Words.{IsAnswerTo, IsCallAnswered, IsDeedAnswered, IsQuestionOf, IsUnasked, are_by_one_port, is_service_of_device, joined, question_by, question_text};
 ghost use Rattle.gw_verdicts.specs.questions.Deeds.{deed_text};
 
-use crate::questions::answer::{Answer, Outcome, answer_question};
+use crate::questions::answer::{AnswerKind, QuestionAnswer, answer_question};
 use crate::questions::call::{Call, answer_call_by, registration_of, who_is_of};
-use crate::questions::deed::{Deed, DeedWords, deed_of};
+use crate::questions::deed::{Deed, DeedInWords, deed_of};
 use crate::questions::fault::{PlaceFault, Unasked};
-use crate::questions::place::{Question, Station, Target, station_of, target_in};
+use crate::questions::place::{Addressee, Question, Station, station_of, target_in};
 use gw_addr::put_slice;
 use gw_configuration::Config;
 use std::alloc::{AllocError, Global};
 
 /// A question in words.
 #[derive(Clone, Copy)]
-pub struct Words<'a> {
+pub struct QuestionWords<'a> {
     /// The station that asks.
     pub from: &'a str,
     /// Whom it asks, if that is said.
@@ -30,7 +30,7 @@ pub struct Words<'a> {
 #[derive(Clone, Copy)]
 pub enum Subject<'a> {
     /// Whether a station may do this with another.
-    Deed(DeedWords<'a>),
+    Deed(DeedInWords<'a>),
     /// Whether the stations of a network, or of each, hear its Who-Is (clause 16.10).
     WhoIs,
     /// Whether it may register as a foreign device (Annex J.5.2).
@@ -38,27 +38,31 @@ pub enum Subject<'a> {
 }
 
 /// Whether both lie by one port, so that the gateway isn't between them.
-fn are_by_one_port(asker: &Station, target: &Target) -> bool
+fn are_by_one_port(asker: &Station, target: &Addressee) -> bool
     ensures { result ≡ are_by_one_port asker.now target.now }
 {
     match target {
-        Target::Station(station) => station.port == asker.port,
-        Target::Device(_) => false,
+        Addressee::Station(station) => station.port == asker.port,
+        Addressee::Device(_) => false,
     }
 }
 
 /// Whether the gateway's own device is asked for a service.
-fn is_service_of_device(target: &Target, deed: &Deed<'_>) -> bool
+fn is_service_of_device(target: &Addressee, deed: &Deed<'_>) -> bool
     ensures { result ≡ is_service_of_device target.now deed.now }
 {
     match target {
-        Target::Device(_) => matches!(deed, Deed::Serve(_)),
-        Target::Station(_) => false,
+        Addressee::Device(_) => matches!(deed, Deed::Serve(_)),
+        Addressee::Station(_) => false,
     }
 }
 
 /// The question of these parts.
-fn question_by<'a>(asker: Station, target: Target, deed: Deed<'a>) -> Result<Question<'a>, Unasked>
+fn question_by<'a>(
+    asker: Station,
+    target: Addressee,
+    deed: Deed<'a>,
+) -> Result<Question<'a>, Unasked>
     ensures { result ≡ question_by asker target deed.entry }
 {
     if are_by_one_port(&asker, &target) {
@@ -77,7 +81,7 @@ fn question_by<'a>(asker: Station, target: Target, deed: Deed<'a>) -> Result<Que
 /// The question of these parts, or what the first fault among them says.
 fn joined<'a>(
     asker: Result<Station, PlaceFault>,
-    target: Result<Target, PlaceFault>,
+    target: Result<Addressee, PlaceFault>,
     deed: Result<Deed<'a>, Unasked>,
 ) -> Result<Question<'a>, Unasked>
     ensures { result ≡ joined asker target deed.entry }
@@ -95,7 +99,7 @@ fn question_of(
     config: &Config,
     from: &str,
     to: Option<&str>,
-    deed: &DeedWords<'_>,
+    deed: &DeedInWords<'_>,
 ) -> Result<Question<'static>, Unasked>
     ensures { IsQuestionOf config.now from.now (option_map (λ t. t.now) to.entry) (deed_text deed.now) result }
 {
@@ -152,14 +156,14 @@ fn put_unasked(text: &mut Vec<u8>, unasked: Unasked) -> Result<(), AllocError>
 }
 
 /// What is said of words that ask no question.
-fn answer_unasked(alloc: Global, unasked: Unasked) -> Result<Answer, AllocError>
+fn answer_unasked(alloc: Global, unasked: Unasked) -> Result<QuestionAnswer, AllocError>
     ensures { IfOk result (λ answer. IsUnasked unasked answer.text.items answer.outcome) }
 {
     let mut text = Vec::new(alloc);
     put_unasked(&mut text, unasked)?;
-    Ok(Answer {
+    Ok(QuestionAnswer {
         text,
-        outcome: Outcome::Unasked,
+        outcome: AnswerKind::Unasked,
     })
 }
 
@@ -169,8 +173,8 @@ fn answer_deed(
     config: Config,
     from: &str,
     to: Option<&str>,
-    deed: &DeedWords<'_>,
-) -> Result<Answer, AllocError>
+    deed: &DeedInWords<'_>,
+) -> Result<QuestionAnswer, AllocError>
     ensures { let whom = option_map (λ t. t.now) to.entry in
         IfOk result (λ answer. IsDeedAnswered config from.now whom (deed_text deed.now) answer.text.items answer.outcome) }
 {
@@ -185,7 +189,7 @@ fn answer_call(
     alloc: Global,
     config: Config,
     call: Result<Call, Unasked>,
-) -> Result<Answer, AllocError>
+) -> Result<QuestionAnswer, AllocError>
     ensures { IfOk result (λ answer. IsCallAnswered config call answer.text.items answer.outcome) }
 {
     match call {
@@ -196,7 +200,11 @@ fn answer_call(
 
 /// The answer to a question in words under a configuration, whose gateway has taken nothing yet; or why the words ask none.
 /// An `Err` only if a growth of memory was refused.
-pub fn answer_words(alloc: Global, config: Config, words: &Words<'_>) -> Result<Answer, AllocError>
+pub fn answer_words(
+    alloc: Global,
+    config: Config,
+    words: &QuestionWords<'_>,
+) -> Result<QuestionAnswer, AllocError>
     ensures { IfOk result (λ answer. IsAnswerTo config (question_text words.now) answer.text.items answer.outcome) }
 {
     match &words.subject {

@@ -30,7 +30,7 @@ pub struct TrialNames<'a> {
 
 /// A log that is open, and the number from which it goes on.
 #[derive(Drop)]
-struct Opened<S> {
+struct OpenedLog<S> {
     sink: S,
     number: u64,
 }
@@ -78,7 +78,7 @@ fn check_fit(config: &Config, trial: &Config) -> Result<(), WatchFault>
 
 /// Opens the log of this name, to go on from its last denial. `Failed` if it can't be opened or read, or isn't a regular file, whose
 /// reader could hold up all; and `Memory`.
-fn open_after<H: Host>(alloc: Global, name: &str, host: &H) -> Result<Opened<H::Log>, LogFailure>
+fn open_after<H: Host>(alloc: Global, name: &str, host: &H) -> Result<OpenedLog<H::Log>, LogFailure>
     ensures { let LogOpens = OpensAtLine (H.LogOpens host.now) (H.LogIsCut host.now) H.Log.held in
         IsOpenedBy (H.LastDenials host.now) LogOpens name.now result }
 {
@@ -88,7 +88,7 @@ fn open_after<H: Host>(alloc: Global, name: &str, host: &H) -> Result<Opened<H::
         Err(ReadFailure::Unreadable(_)) => return Err(LogFailure::Failed),
     };
     match open_at_line(alloc, name, host) {
-        Ok(sink) => Ok(Opened {
+        Ok(sink) => Ok(OpenedLog {
             sink,
             number: number_after(&line),
         }),
@@ -97,7 +97,7 @@ fn open_after<H: Host>(alloc: Global, name: &str, host: &H) -> Result<Opened<H::
 }
 
 /// A log that was opened, beside the log, which records what is chosen so.
-fn beside<C, S: OctetSink>(choice: C, opened: Opened<S>) -> Beside<C, S>
+fn beside<C, S: OctetSink>(choice: C, opened: OpenedLog<S>) -> Beside<C, S>
     ensures { result ≡ record { choice = choice; sink = opened.sink; number = opened.number; lost = 0; is_cut = false } }
 {
     Beside {

@@ -1,8 +1,8 @@
 -- What a private contract sees of the values of a line.
-use Rattle.gw_report.specs.points.Points.{Point}
-use Rattle.gw_report.specs.declared.points.points.Point.{Point as Lent}
+use Rattle.gw_report.specs.points.Points.{PointLine}
+use Rattle.gw_report.specs.declared.points.points.PointLine.{PointLine as Lent}
 
-abbrev pub point_view : Lent → Point
+abbrev pub point_view : Lent → PointLine
 point_view p = record {
   device = p.device;
   kind = p.kind;

@@ -1,6 +1,6 @@
 use Rattle.std.proofs.Common.{ℕ, List, Result, ◌∙◌, ap, rules, subst, sym}
 use Rattle.std.specs.Io.KnownBytes.{Appends}
-use Rattle.gw_core.specs.declared.guard.Both.{Both}
+use Rattle.gw_core.specs.declared.guard.BothGuards.{BothGuards}
 use Rattle.gw_script.proofs.Passing.{passes_on}
 use Rattle.gw_system.specs.Requests.{recorded_by}
 use Rattle.gw_watchers.specs.Watching.{Watching}
@@ -63,7 +63,7 @@ returns-then-options-clause-ran g c =
     let left = rest at.new.self.running.keeper (said at.new.self.running.requests) in
     let is_held = c.holding-held.ensures.running in
     let ran = subst (λ (r : Running _ _ _). (text : List ℕ) × RunsFromHolding (watched_holding_manner_of g.S.Store.held g.T.OctetSink.held how)
-    (end_stats (λ (h : Holding (Both (Watching _ _) (Kept _))). unkept_of h.keeper) (more_holding more_of) how) c.counts.result r.state.left
+    (end_stats (λ (h : Holding (BothGuards (Watching _ _) (Kept _))). unkept_of h.keeper) (more_holding more_of) how) c.counts.result r.state.left
     (stage_of said c.args.ready.config (record r { said = troubles_of r.keeper.keeper }) (g.L.OctetSink.held c.args.log.now)
     (g.X.Wire.calls c.args.sockets.now)) at.result after left text × (never → Appends (held c.args.errors.now) (held at.new.errors) text)) is_held
     (at.ensures.runs c.args.ready.config (ap (λ (r : Running _ _ _). r.origin) is_held ∙ is.origin)) in

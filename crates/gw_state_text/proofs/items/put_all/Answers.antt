@@ -6,7 +6,7 @@ use Rattle.gw_state_text.proofs.items.put_all.Goals as goal
 
 pub returns-in_err-put : goal.returns-in_err-put
 returns-in_err-put g c =
-    let written = flat_map (g.L.Lines.lines c.args.kind.now) (take c.loop-item.item-index c.args.items.now) in
+    let written = flat_map (g.L.ItemLines.lines c.args.kind.now) (take c.loop-item.item-index c.args.items.now) in
     record {
       ok = search rules;
       front = Keeps-front c.args.out.now.items written c.put.new.out.items

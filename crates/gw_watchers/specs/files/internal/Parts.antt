@@ -11,7 +11,7 @@ use Rattle.gw_watchers.specs.files.Trial.{IsUnopened, IsUnreadable, MayRunOut, a
 use Rattle.gw_watchers.specs.declared.files.fault.TrialFault.TheVariants as trial
 use Rattle.gw_watchers.specs.declared.files.fault.WatchFault.{WatchFault}
 use Rattle.gw_watchers.specs.declared.files.fault.WatchFault.TheVariants as fault
-use Rattle.gw_watchers.specs.declared.files.opening.Opened.{Opened}
+use Rattle.gw_watchers.specs.declared.files.opening.OpenedLog.{OpenedLog}
 
 -- a text has no configuration, or memory ran out
 abbrev pub IsNoText : List ℕ → WatchFault → Type 0
@@ -40,14 +40,14 @@ IsNoFit c new _ = ⊥
 -- a log that goes on from its last denial
 pub record GoesOnFromDenial {Log : Type 0} (LastDenials : List ℕ → Result (Option (List ℕ)) ReadFailure → Type 0)
     (LogOpens : LogOpening Log)
-    (name : List ℕ) (o : Opened Log) : Type 0 where
+    (name : List ℕ) (o : OpenedLog Log) : Type 0 where
   pub line : Option (List ℕ)
   pub last : LastDenials name (Ok line)
   pub number : IsNumberAfter line o.number
   pub opens : LogOpens name (Ok o.sink)
 
 abbrev pub IsOpenedBy : {Log : Type 0} → (LastDenials : List ℕ → Result (Option (List ℕ)) ReadFailure → Type 0) → LogOpening Log
-    → (name : List ℕ) → Result (Opened Log) LogFailure → Type 0
+    → (name : List ℕ) → Result (OpenedLog Log) LogFailure → Type 0
 IsOpenedBy LastDenials LogOpens name (Ok o) = GoesOnFromDenial LastDenials LogOpens name o
 IsOpenedBy LastDenials LogOpens name (Err log_failure.Failed) = IsUnopened LastDenials LogOpens name
 IsOpenedBy LastDenials LogOpens name (Err log_failure.Memory) = ⊤

@@ -3,7 +3,7 @@ use Rattle.std.proofs.lemmas.Result.{on_ok_weaker}
 use Rattle.gw_notices.proofs.metrics_lemmas.Samples.{one_more}
 use Rattle.gw_notices.specs.metrics.Text.{Count, Help, KindOf, Line, labelled}
 use Rattle.gw_notices.specs.declared.metrics.family.Family.TheVariants as family
-use Rattle.gw_notices.specs.declared.metrics.family.Label.TheVariants as label
+use Rattle.gw_notices.specs.declared.metrics.family.SampleLabel.TheVariants as label
 use Rattle.gw_notices.proofs.metrics.text.put_reloads.Goals as goal
 
 pub returns : goal.returns

@@ -3,7 +3,7 @@ use Rattle.gw_rules.specs.declared.rule.Rule.{Rule}
 use Rattle.gw_script.proofs.Order.{in_order_end, in_order_none, in_order_step}
 use Rattle.gw_notices.specs.metrics.Text.{Count, full_line, labelled, rule_line}
 use Rattle.gw_notices.specs.declared.metrics.family.Family.TheVariants as family
-use Rattle.gw_notices.specs.declared.metrics.family.Label.TheVariants as label
+use Rattle.gw_notices.specs.declared.metrics.family.SampleLabel.TheVariants as label
 use Rattle.gw_notices.proofs.metrics.text.put_rules.Goals as goal
 
 pub loop-place-init : goal.loop-place-init

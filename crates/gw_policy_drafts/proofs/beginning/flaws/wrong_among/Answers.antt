@@ -4,10 +4,10 @@ use Rattle.gw_policy_drafts.proofs.BeginningLaw.{wrong_last, wrong_next}
 use Rattle.gw_policy_drafts.specs.beginning.Flaws.{wrong_from, wrong_or}
 use Rattle.gw_policy_drafts.specs.beginning.Site.{site_of}
 use Rattle.gw_policy_drafts.specs.declared.beginning.fault.Flaw.{Flaw}
-use Rattle.gw_policy_drafts.specs.declared.beginning.part.Part.{Part}
+use Rattle.gw_policy_drafts.specs.declared.beginning.part.SitePart.{SitePart}
 use Rattle.gw_policy_drafts.proofs.beginning.flaws.wrong_among.Goals as goal
 
-abbrev nobody : Part
+abbrev nobody : SitePart
 nobody = record { number = 0; ip = []; prefix = 0; udp = None }
 
 pub returns-in-Some : goal.returns-in-Some

@@ -3,7 +3,7 @@ use Rattle.gw_configuration.specs.Configuration.{Configuration}
 use Rattle.gw_script.proofs.Passing.{passes_on}
 use Rattle.gw_turns.specs.declared.serving.ServeFault.{ServeFault}
 use Rattle.gw_service.specs.Holding.{Hold, hold, holding_manner, stage_of}
-use Rattle.gw_service.specs.declared.running.End.{End}
+use Rattle.gw_service.specs.declared.running.RunEnd.{RunEnd}
 use Rattle.gw_service.specs.Scheduled.{reporting_by}
 use Rattle.gw_service.proofs.HoldingRunLemmas.{Gone, ServedSo, served_fault, served_so, served_whole, stepped_more, stepped_none}
 use Rattle.gw_service.proofs.holding_run.HoldingRun.serve_steps.Goals as goal
@@ -48,7 +48,7 @@ loop-preserved g c =
           (λ (config : Configuration). hold (stage_of g.Q.Requests.recorded config old.running (g.L.OctetSink.held c.args.log.now)
           (g.W.Wire.calls c.args.wire.now)) old.waiting)
           at next (never c.args.errors.now) (never c.loop.errors) (held c.args.errors.now) (held c.loop.errors) (held c.step.new.errors)
-          kept.4 (subst (λ (ending : Option End). Gone how now.running.origin at (Ok ending) new.running.origin next (never c.loop.errors)
+          kept.4 (subst (λ (ending : Option RunEnd). Gone how now.running.origin at (Ok ending) new.running.origin next (never c.loop.errors)
           (held c.loop.errors) (held c.step.new.errors)) c.in-None.is c.in_ok-ended.ensures.comes) kept.3,
     )
 
@@ -69,7 +69,7 @@ returns-in_err-ended-clause-serves g c =
     (g.W.Wire.calls c.loop.wire)) now.waiting in
     let last : Configuration → Hold _ = λ (config : Configuration). hold (stage_of g.Q.Requests.recorded config new.running (g.L.OctetSink.held c.step.new.log)
     (g.W.Wire.calls c.step.new.wire)) new.waiting in
-    passes_on (λ (r : Result End ServeFault). ServedSo how c.args.self.now.running.state.left old.running.origin first r new.running.origin last (never c.args.errors.now)
+    passes_on (λ (r : Result RunEnd ServeFault). ServedSo how c.args.self.now.running.state.left old.running.origin first r new.running.origin last (never c.args.errors.now)
     (held c.args.errors.now) (held c.step.new.errors)) fault c.from_residual.result c.from_residual.ensures
     (served_fault how c.args.self.now.running.state.left old.running.origin now.running.origin new.running.origin first at last fault
     (never c.args.errors.now) (never c.loop.errors) (held c.args.errors.now) (held c.loop.errors) (held c.step.new.errors)
@@ -93,7 +93,7 @@ returns-in-Some-clause-serves g c =
     (g.W.Wire.calls c.step.new.wire)) new.waiting in
     served_so how c.args.self.now.running.state.left old.running.origin now.running.origin new.running.origin first at last c.in-Some.end
     (never c.args.errors.now) (never c.loop.errors) (held c.args.errors.now) (held c.loop.errors) (held c.step.new.errors) kept.4
-    (subst (λ (ending : Option End). Gone how now.running.origin at (Ok ending) new.running.origin last (never c.loop.errors)
+    (subst (λ (ending : Option RunEnd). Gone how now.running.origin at (Ok ending) new.running.origin last (never c.loop.errors)
     (held c.loop.errors) (held c.step.new.errors)) c.in-Some.is c.in_ok-ended.ensures.comes) kept.3
 
 pub returns-then-self-eq0-clause-serves : goal.returns-then-self-eq0-clause-serves

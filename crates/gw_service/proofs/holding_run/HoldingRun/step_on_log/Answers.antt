@@ -6,7 +6,7 @@ use Rattle.gw_notices.proofs.AppendLemmas.{appends_two}
 use Rattle.gw_turns.specs.declared.serving.ServeFault.{ServeFault}
 use Rattle.gw_turns.specs.declared.serving.ServeFault.TheVariants as serving
 use Rattle.gw_service.specs.Holding.{GoesTo, counting, hold, holding_manner, stage_of, waits_line}
-use Rattle.gw_service.specs.declared.running.End.{End}
+use Rattle.gw_service.specs.declared.running.RunEnd.{RunEnd}
 use Rattle.gw_service.specs.declared.running.Running.{Running}
 use Rattle.gw_service.specs.Scheduled.{reporting_by}
 use Rattle.gw_service.proofs.HoldingRunLemmas.{failed_is, goes_failed, goes_over_log}
@@ -56,7 +56,7 @@ returns-then-not-hold-clause-comes g c = λ config is_config.
       done.1,
       ap (λ (r : Running _ _ _). r.origin) running ∙ done.2,
       subst (λ (r : Running _ _ _). GoesTo how before (Err serving.Log) done.1 (hold (stage_of recorded done.0 r (log now.log) (calls now.wire)) is.waiting)) (sym running)
-          (subst (λ (a : Result (Option End) ServeFault). GoesTo how before a done.1 (hold (counting mid (length is.waiting) mid.now.guard.withheld) is.waiting)) failed
+          (subst (λ (a : Result (Option RunEnd) ServeFault). GoesTo how before a done.1 (hold (counting mid (length is.waiting) mid.now.guard.withheld) is.waiting)) failed
           (goes_over_log how c.args.self.now.running.state.left was mid old.waiting is.waiting c.advance-ended.result done.1 _ c.requires.none left done.3)),
       λ never. subst (λ (l : List ℕ). Appends (held c.args.errors.now) (held c.hold.new.errors) l) (append-nil done.1)
           (appends_two (held c.args.errors.now) (held now.errors) (held c.hold.new.errors) done.1 [] (done.4 never)

@@ -5,7 +5,7 @@ use Rattle.gw_turns.specs.Serve.{scene, taken_event}
 use Rattle.gw_turns.specs.Stretch.{CanCount, moment}
 use Rattle.gw_turns.specs.declared.serving.ServeState.{ServeState}
 use Rattle.gw_notices.specs.declared.troubles.Troubles.{Troubles}
-use Rattle.gw_turns.specs.declared.stretch.Pause.TheVariants as pause
+use Rattle.gw_turns.specs.declared.stretch.StretchEnd.TheVariants as pause
 use Rattle.gw_service.specs.Chain.{FailsToLast, IsStatusIn, WasLasting, edge, look_text, manner, served, stage, standing, withheld}
 use Rattle.gw_notices.specs.Notices.{metrics_notice, notice_of}
 use Rattle.gw_wire.specs.declared.store.StoreFault.{StoreFault}

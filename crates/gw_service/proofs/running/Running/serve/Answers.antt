@@ -5,7 +5,7 @@ use Rattle.gw_turns.specs.Serve.{scene}
 use Rattle.gw_turns.specs.Stretch.{moment}
 use Rattle.gw_turns.specs.declared.serving.ServeFault.{ServeFault}
 use Rattle.gw_service.specs.Chain.{FailsToLast, Stage, WasLasting, edge, manner, stage}
-use Rattle.gw_service.specs.declared.running.End.{End}
+use Rattle.gw_service.specs.declared.running.RunEnd.{RunEnd}
 use Rattle.gw_service.specs.Metering.{metered, meters_by}
 use Rattle.gw_service.specs.Scheduled.{reporting_by}
 use Rattle.gw_service.specs.Stats.{all_stats, due_stats}
@@ -62,7 +62,7 @@ loop-preserved g c =
           at next left_by
           (g.E.OctetSink.NeverFails c.args.errors.now) (g.E.OctetSink.NeverFails c.loop.errors)
           (g.E.OctetSink.held c.args.errors.now) (g.E.OctetSink.held c.loop.errors) (g.E.OctetSink.held c.advance.new.errors)
-          kept.4 (subst (λ (ending : Option End). Advanced how now.state.left now.origin at (Ok ending) new.origin next left_by (never c.loop.errors)
+          kept.4 (subst (λ (ending : Option RunEnd). Advanced how now.state.left now.origin at (Ok ending) new.origin next left_by (never c.loop.errors)
           (held c.loop.errors) (held c.advance.new.errors)) c.in-None.is c.in_ok-ended.ensures.advances) kept.3,
     )
 
@@ -85,7 +85,7 @@ returns-in_err-ended-clause-runs g c =
     let last : Configuration → Stage _ = λ (config : Configuration). stage config
     (moment (scene new.gateway (g.L.OctetSink.held c.advance.new.log) (g.W.Wire.calls c.advance.new.wire)) new.keeper new.state.served
     new.state.tally) (g.Q.Requests.recorded new.requests) new.counts new.announcing new.said (metered new.metrics) in
-    passes_on (λ (r : Result End ServeFault). Ran how c.args.self.now.state.left old.origin first r new.origin last (never c.args.errors.now)
+    passes_on (λ (r : Result RunEnd ServeFault). Ran how c.args.self.now.state.left old.origin first r new.origin last (never c.args.errors.now)
     (held c.args.errors.now) (held c.advance.new.errors)) fault c.from_residual.result c.from_residual.ensures
     (ran_until how c.args.self.now.state.left now.state.left old.origin now.origin new.origin first
     (λ (config : Configuration). stage config (moment (scene now.gateway (g.L.OctetSink.held c.loop.log) (g.W.Wire.calls c.loop.wire))
@@ -120,5 +120,5 @@ returns-in-Some-clause-runs g c =
     (FailsToLast g.L.Lasting.Syncs c.advance.new.log) new.state.unwritten.items in
     ran_ended how c.args.self.now.state.left now.state.left old.origin now.origin new.origin first at next left_by
     (never c.args.errors.now) (never c.loop.errors) (held c.args.errors.now) (held c.loop.errors) (held c.advance.new.errors) c.in-Some.end
-    kept.4 (subst (λ (ending : Option End). Advanced how now.state.left now.origin at (Ok ending) new.origin next left_by (never c.loop.errors)
+    kept.4 (subst (λ (ending : Option RunEnd). Advanced how now.state.left now.origin at (Ok ending) new.origin next left_by (never c.loop.errors)
     (held c.loop.errors) (held c.advance.new.errors)) c.in-Some.is c.in_ok-ended.ensures.advances) kept.3 (λ a b. kept.1)

@@ -10,7 +10,7 @@ pub returns-then-put-eq0 : goal.returns-then-put-eq0
 returns-then-put-eq0 g c =
     let b = c.args.self.now in
     let asked = c.args.asked.now.kept in
-    let records_by = λ (rules : List Rule) (ticks : ℕ) (asked : List Asked). records (g.C.Choice.chosen b.choice) (g.C.Choice.front b.choice rules) (g.C.Choice.naming b.choice rules) b.number ticks asked in
+    let records_by = λ (rules : List Rule) (ticks : ℕ) (asked : List Asked). records (g.C.RecordChoice.chosen b.choice) (g.C.RecordChoice.front b.choice rules) (g.C.RecordChoice.naming b.choice rules) b.number ticks asked in
     let put = subst (λ (rules : List Rule). IsPut (records_by rules c.args.gateway.now.ticks asked) (start b.number)
     c.begin_text-is_begun.new.text.items c.put_all-put.new.text.items c.put_all-put.result) c.rules.ensures
     (subst (λ (ticks : ℕ). IsPut (records_by c.rules.result.now ticks asked) (start b.number)
@@ -24,7 +24,7 @@ pub returns : goal.returns
 returns g c =
     let b = c.args.self.now in
     let asked = c.args.asked.now.kept in
-    let records_by = λ (rules : List Rule) (ticks : ℕ) (asked : List Asked). records (g.C.Choice.chosen b.choice) (g.C.Choice.front b.choice rules) (g.C.Choice.naming b.choice rules) b.number ticks asked in
+    let records_by = λ (rules : List Rule) (ticks : ℕ) (asked : List Asked). records (g.C.RecordChoice.chosen b.choice) (g.C.RecordChoice.front b.choice rules) (g.C.RecordChoice.naming b.choice rules) b.number ticks asked in
     let due = records_by c.args.gateway.now.rules c.args.gateway.now.ticks asked in
     let put = subst (λ (rules : List Rule). IsPut (records_by rules c.args.gateway.now.ticks asked) (start b.number)
     c.begin_text-is_begun.new.text.items c.put_all-put.new.text.items c.put_all-put.result) c.rules.ensures

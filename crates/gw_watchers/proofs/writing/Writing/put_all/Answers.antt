@@ -14,9 +14,9 @@ put_next-put-requires g c =
     let i = c.loop-verdict.verdict-index in
     let verdicts = c.args.verdicts.now in
     let from = asked_from w.whom.now in
-    let chosen = g.C.Choice.chosen w.choice.now in
-    let front = g.C.Choice.front w.choice.now w.rules.now in
-    let rules = g.C.Choice.naming w.choice.now w.rules.now in
+    let chosen = g.C.RecordChoice.chosen w.choice.now in
+    let front = g.C.RecordChoice.front w.choice.now w.rules.now in
+    let rules = g.C.RecordChoice.naming w.choice.now w.rules.now in
     let so_far = c.loop-verdict.invariant in
     omega (
       arith,
@@ -31,7 +31,7 @@ pub loop-verdict-preserved : goal.loop-verdict-preserved
 loop-verdict-preserved g c =
     let w = c.args.self.now in
     let text = c.args.text.now.items in
-    put_on_one (asked_from w.whom.now) (g.C.Choice.chosen w.choice.now) (g.C.Choice.front w.choice.now w.rules.now)
-    (g.C.Choice.naming w.choice.now w.rules.now) c.args.last w.tick c.args.verdicts.now c.loop-verdict.verdict-index _ (start c.args.last)
+    put_on_one (asked_from w.whom.now) (g.C.RecordChoice.chosen w.choice.now) (g.C.RecordChoice.front w.choice.now w.rules.now)
+    (g.C.RecordChoice.naming w.choice.now w.rules.now) c.args.last w.tick c.args.verdicts.now c.loop-verdict.verdict-index _ (start c.args.last)
     c.loop-verdict.put c.put_next-put.result text c.loop-verdict.text.items c.put_next-put.new.text.items c.loop-verdict-test.true refl
     c.loop-verdict.invariant c.put_next-put.ensures

@@ -6,8 +6,8 @@ use Rattle.gw_watchers.proofs.writing.Writing.put_all.Given as goal
 
 abbrev pub invariant-loop-verdict : goal.invariant-loop-verdict
 invariant-loop-verdict g l =
-    let rules = g.C.Choice.naming l.self.choice.now l.self.rules.now in
-    let front = g.C.Choice.front l.self.choice.now l.self.rules.now in
+    let rules = g.C.RecordChoice.naming l.self.choice.now l.self.rules.now in
+    let front = g.C.RecordChoice.front l.self.choice.now l.self.rules.now in
     let asked = map (asked_from l.self.whom.now) (take l.verdict-index l.verdicts) in
-    IsPut (records (g.C.Choice.chosen l.self.choice.now) front rules l.last l.self.tick asked) (start l.last)
+    IsPut (records (g.C.RecordChoice.chosen l.self.choice.now) front rules l.last l.self.tick asked) (start l.last)
     l.fn.text.items l.text.items l.put

@@ -1,7 +1,7 @@
 use Rattle.std.proofs.Common.{◌≡◌, ◌∙◌, ◌≤◌, ◌++◌, [], ℕ, List, Some, length, drop, sym, ap, subst, arith}
 use Rattle.gw_script.specs.Reader.{BeginsLong}
-use Rattle.gw_verdicts.specs.declared.asks.cursor.Place.{Place}
-use Rattle.gw_verdicts.specs.declared.asks.cursor.Place.TheVariants.{Passed}
+use Rattle.gw_verdicts.specs.declared.asks.cursor.LinePlace.{LinePlace}
+use Rattle.gw_verdicts.specs.declared.asks.cursor.LinePlace.TheVariants.{Passed}
 use Rattle.gw_verdicts.specs.asks.Position.{GivesFront, IsBetween, Position, rest_at, rest_of}
 use Rattle.gw_verdicts.proofs.asks_lemmas.StepLemmas.{passes_between, passes_first}
 use Rattle.gw_verdicts.proofs.asks.cursor.Cursor.pass_long.Goals as goal
@@ -20,7 +20,7 @@ returns-in-Start c =
     (λ (p : Position). (rest : List ℕ) → BeginsLong (p.lines.unread ++ rest) → GivesFront (rest_at p (Some rest)) (Some (rest_of Passed more (after ++ rest))) [])
     c.self.view_is
     (λ rest long.
-    subst (λ (place : Place). GivesFront (Some (rest_of place n (unread ++ rest))) (Some (rest_of Passed more (after ++ rest))) [])
+    subst (λ (place : LinePlace). GivesFront (Some (rest_of place n (unread ++ rest))) (Some (rest_of Passed more (after ++ rest))) [])
     (sym c.in-Start.is)
     (passes_first n count unread after rest taken within c.long_front-count.ensures.most long more c.saturating_add-self-inside.ensures))
 
