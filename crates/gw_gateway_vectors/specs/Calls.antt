@@ -3,8 +3,8 @@ use Rattle.std.specs.Prelude.{List, Option, Some, None, map}
 use Rattle.std.specs.Global.{Vec}
 use Rattle.gw_script.specs.Event.{Datagram, Tick}
 use Rattle.gw_wire.specs.Wire.{Call, empty_receive, failed_receive, arrival, departure, failed_send}
-use Rattle.gw_gateway_vectors.specs.declared.wire.Call.{Call as Kept}
-use Rattle.gw_gateway_vectors.specs.declared.wire.Call.TheVariants as kept
+use Rattle.gw_gateway_vectors.specs.declared.wire.WireCall.{WireCall as Kept}
+use Rattle.gw_gateway_vectors.specs.declared.wire.WireCall.TheVariants as kept
 
 -- a call, without where its octets lie in memory
 abbrev pub call_of : Kept → Call

@@ -20,14 +20,14 @@ const AMPLE: usize = 4096;
 /// A store over memory, which reports what it holds. Each call does what the case says of it: `f`, it fails and holds
 /// what it held; `n`, it fails and holds the text; and else it takes the text.
 #[derive(Drop)]
-struct MemStore<'a> {
+struct ShownMemStore<'a> {
     alloc: Global,
     answers: &'a [u8],
     calls: u64,
     text: Vec<u8>,
 }
 
-impl MemStore<'_> {
+impl ShownMemStore<'_> {
     /// What the case says of the call that begins now.
     fn next_answer(&mut self) -> u8
         ensures { self.new.text ≡ self.old.text }
@@ -44,7 +44,7 @@ impl MemStore<'_> {
     }
 }
 
-impl Store for MemStore<'_> {
+impl Store for ShownMemStore<'_> {
     ghost held = { λ store. Some store.text.items };
 
     ghost NeverFails = { λ _. ⊥ };
@@ -67,10 +67,10 @@ impl Store for MemStore<'_> {
 
 /// A wire, what the log is written to, and what keeps the state.
 #[derive(Drop)]
-struct Edges<'a> {
+struct KeepingEdges<'a> {
     wire: MemWire<'a>,
     log: MemWriter,
-    keeper: Keeper<MemStore<'a>>,
+    keeper: Keeper<ShownMemStore<'a>>,
 }
 
 /// The letter of a pause.
@@ -87,7 +87,7 @@ fn keep_after(
     alloc: Global,
     pause: StretchEnd,
     gateway: &Gateway,
-    keeper: &mut Keeper<MemStore<'_>>,
+    keeper: &mut Keeper<ShownMemStore<'_>>,
 ) -> io::Result<()> {
     if let StretchEnd::Tick = pause {
         keeper.keep_at_tick(alloc, gateway);
@@ -102,7 +102,7 @@ fn keep_after(
 fn serve_stretches(
     alloc: Global,
     gateway: &mut Gateway,
-    edges: &mut Edges<'_>,
+    edges: &mut KeepingEdges<'_>,
     turns: u64,
     out: &mut Vec<u8>,
 ) -> io::Result<Result<(), ServeFault>>
@@ -154,13 +154,13 @@ pub fn keeping(alloc: Global, config: &str, line: &str, out: &mut Vec<u8>) -> io
     }
     let mut gateway = make_gateway(alloc, config, Counts::default())?;
     let origin = Origin::of(alloc, &read(alloc, config)?)?;
-    let store = MemStore {
+    let store = ShownMemStore {
         alloc,
         answers: answers.as_bytes(),
         calls: 0,
         text: Vec::new(alloc),
     };
-    let mut edges = Edges {
+    let mut edges = KeepingEdges {
         wire: MemWire::new(alloc, &script, None),
         log: MemWriter::new(alloc, None, AMPLE)?,
         keeper: Keeper::begin(alloc, store, origin, &gateway),

@@ -90,7 +90,7 @@ pub fn call(alloc: Global, config: &str, line: &str, out: &mut Vec<u8>) -> io::R
 
 /// A wire, and what the log and the reports are written to.
 #[derive(Drop)]
-struct Edges<'a> {
+struct ServingEdges<'a> {
     wire: MemWire<'a>,
     log: MemWriter,
     reports: MemWriter,
@@ -150,7 +150,7 @@ fn report_after(
 fn serve_reporting(
     alloc: Global,
     gateway: &mut Gateway,
-    edges: &mut Edges<'_>,
+    edges: &mut ServingEdges<'_>,
     seconds: u64,
     turns: u64,
 ) -> io::Result<Result<Served, ServeStop>>
@@ -178,7 +178,7 @@ fn serve_reporting(
 fn serve_with(
     alloc: Global,
     gateway: &mut Gateway,
-    edges: &mut Edges<'_>,
+    edges: &mut ServingEdges<'_>,
     seconds: u64,
     turns: u64,
 ) -> io::Result<Result<Served, ServeStop>> {
@@ -198,7 +198,7 @@ pub fn reports(alloc: Global, config: &str, line: &str, out: &mut Vec<u8>) -> io
     let failing_write = number_or_none(words.next())?;
     let failing_report = number_or_none(words.next())?;
     let script = unfolded(alloc, words.next().unwrap_or(""))?;
-    let mut edges = Edges {
+    let mut edges = ServingEdges {
         wire: MemWire::new(alloc, &script, failing_call),
         log: MemWriter::new(alloc, failing_write, AMPLE)?,
         reports: MemWriter::new(alloc, failing_report, AMPLE)?,

@@ -99,16 +99,16 @@ impl Sock for MemSock {
 /// How many datagrams wait at the own socket of each of two ports, after how many looks at that of
 /// port 2, and which socket fails, from 0, at which of its calls. None waits at the others.
 #[derive(Clone, Copy)]
-struct Waiting {
+struct WaitingDatagrams {
     datagrams: u64,
     late: u64,
     failing: Option<(u64, u64)>,
 }
 
-impl Waiting {
+impl WaitingDatagrams {
     /// What a line says, where so many datagrams wait unless it says so.
     fn of(line: &str, datagrams: u64) -> Self {
-        Waiting {
+        WaitingDatagrams {
             datagrams: number_behind(line, ' ', "waiting=").unwrap_or(datagrams),
             late: number_behind(line, ' ', "late=").unwrap_or(0),
             failing: failing_of(line),
@@ -205,12 +205,12 @@ where
 
 /// What comes of two ports, with so many datagrams waiting and ticks due as the line says.
 pub fn turns(alloc: Global, line: &str, out: &mut Vec<u8>) -> io::Result<()> {
-    put_turns(Waiting::of(line, 0).ports(alloc)?, line, out)
+    put_turns(WaitingDatagrams::of(line, 0).ports(alloc)?, line, out)
 }
 
 /// The same where each socket is watched, and nothing wakes one that sleeps.
 pub fn watches(alloc: Global, line: &str, out: &mut Vec<u8>) -> io::Result<()> {
-    put_turns(Waiting::of(line, 0).watches(alloc)?, line, out)
+    put_turns(WaitingDatagrams::of(line, 0).watches(alloc)?, line, out)
 }
 
 /// A clock on which 0.3 seconds pass from each look to the next, and five more before one of them, and which fails at one of them.
@@ -286,7 +286,7 @@ pub fn seconds(alloc: Global, line: &str, out: &mut Vec<u8>) -> io::Result<()> {
         failing: number_behind(line, ' ', "wait="),
         last: Duration::from_secs(0),
     };
-    let ports = Waiting::of(line, TIMED_WAITING).watches(alloc)?;
+    let ports = WaitingDatagrams::of(line, TIMED_WAITING).watches(alloc)?;
     let Ok(mut timed) = TimedPorts::start(ports, clock, waiter) else {
         return Ok(out.extend_from_slice(b"not started")?);
     };

@@ -22,7 +22,7 @@ const AMPLE: usize = 4096;
 
 /// A wire, and what the log is written to.
 #[derive(Drop)]
-struct Edges<'a> {
+struct WatchingEdges<'a> {
     wire: MemWire<'a>,
     log: MemWriter,
 }
@@ -31,7 +31,7 @@ struct Edges<'a> {
 fn serve_under<G: Guard>(
     alloc: Global,
     gateway: &mut Gateway,
-    edges: &mut Edges<'_>,
+    edges: &mut WatchingEdges<'_>,
     guard: &mut G,
     turns: u64,
 ) -> io::Result<Result<(), ServeFault>>
@@ -136,12 +136,12 @@ pub fn watched(alloc: Global, config: &str, line: &str, out: &mut Vec<u8>) -> io
     }
     let mut watcher = make_watcher(alloc, config, tried, trial, audit)?;
     let mut gateway = make_gateway(alloc, config, Counts::default())?;
-    let mut edges = Edges {
+    let mut edges = WatchingEdges {
         wire: MemWire::new(alloc, &script, None),
         log: MemWriter::new(alloc, None, AMPLE)?,
     };
     let mut plain = make_gateway(alloc, config, Counts::default())?;
-    let mut others = Edges {
+    let mut others = WatchingEdges {
         wire: MemWire::new(alloc, &script, None),
         log: MemWriter::new(alloc, None, AMPLE)?,
     };

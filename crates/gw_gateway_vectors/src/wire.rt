@@ -18,7 +18,7 @@ const PORTS: u8 = 2;
 
 /// A call of a wire, with its answer.
 #[derive(Drop, PartialEq)]
-enum Call {
+enum WireCall {
     /// A receive that found nothing.
     EmptyReceive,
     /// A receive that failed.
@@ -46,23 +46,23 @@ enum Call {
 }
 
 /// The letter of a call.
-fn letter(call: &Call) -> u8 {
+fn letter(call: &WireCall) -> u8 {
     match call {
-        Call::EmptyReceive => b'i',
-        Call::FailedReceive => b'x',
-        Call::Tick => b't',
-        Call::Arrival { .. } => b'd',
-        Call::Departure { .. } => b's',
-        Call::FailedSend { .. } => b'u',
+        WireCall::EmptyReceive => b'i',
+        WireCall::FailedReceive => b'x',
+        WireCall::Tick => b't',
+        WireCall::Arrival { .. } => b'd',
+        WireCall::Departure { .. } => b's',
+        WireCall::FailedSend { .. } => b'u',
     }
 }
 
 /// The receive of a datagram.
-fn received(alloc: Global, port: u8, from: BipAddr, octets: &[u8]) -> Result<Call, AllocError>
+fn received(alloc: Global, port: u8, from: BipAddr, octets: &[u8]) -> Result<WireCall, AllocError>
     ensures { IfOk result (λ call. call_of call ≡ arrival (Datagram port from octets.now)) }
 {
     let octets = Vec::from_slice(alloc, octets)?;
-    Ok(Call::Arrival { port, from, octets })
+    Ok(WireCall::Arrival { port, from, octets })
 }
 
 /// A send, that failed or not.
@@ -72,15 +72,15 @@ fn sent(
     to: BipAddr,
     octets: &[u8],
     is_failed: bool,
-) -> Result<Call, AllocError>
+) -> Result<WireCall, AllocError>
     ensures { let sent = sending port octets.now to in
         IfOk result (λ call. call_of call ≡ if is_failed then failed_send sent else departure sent) }
 {
     let octets = Vec::from_slice(alloc, octets)?;
     if is_failed {
-        Ok(Call::FailedSend { port, to, octets })
+        Ok(WireCall::FailedSend { port, to, octets })
     } else {
-        Ok(Call::Departure { port, to, octets })
+        Ok(WireCall::Departure { port, to, octets })
     }
 }
 
@@ -93,7 +93,7 @@ pub struct MemWire<'a> {
     datagram: [u8; MAX_DATAGRAM],
     fails: Option<u64>,
     failures: u128,
-    calls: Option<Vec<Call>>,
+    calls: Option<Vec<WireCall>>,
 }
 
 impl<'a> MemWire<'a> {
@@ -148,7 +148,7 @@ impl<'a> MemWire<'a> {
         };
         for call in calls.iter().skip(count) {
             letters.push(letter(call))?;
-            if let Call::Departure { port, .. } | Call::FailedSend { port, .. } = call {
+            if let WireCall::Departure { port, .. } | WireCall::FailedSend { port, .. } = call {
                 letters.push(b'0'.saturating_add(*port))?;
             }
         }
@@ -182,7 +182,7 @@ impl<'a> MemWire<'a> {
     }
 
     /// Reports a call; if there is no memory for it, it reports none from then on.
-    fn record_call(&mut self, call: Result<Call, AllocError>)
+    fn record_call(&mut self, call: Result<WireCall, AllocError>)
         ensures failures { self.new.failures ≡ self.old.failures }
         ensures recorded { IfOk call (λ recorded. Records (calls_of self.old.calls) (calls_of self.new.calls) (call_of recorded ∷ [])) }
         ensures ends { IfErr call (λ fault. self.new.calls ≡ None) }
@@ -238,7 +238,7 @@ impl Wire for MemWire<'_> {
     fn recv(&mut self, buf: &mut [u8; RECEIVE_ROOM]) -> Result<Got, WireFault> {
         if self.is_failing() {
             self.failures += 1;
-            self.record_call(Ok(Call::FailedReceive));
+            self.record_call(Ok(WireCall::FailedReceive));
             return Err(WireFault::Failed);
         }
         let line = self.next_line();
@@ -251,11 +251,11 @@ impl Wire for MemWire<'_> {
                 Ok(Got::Datagram { port, from, len })
             }
             Some(Event::Tick) => {
-                self.record_call(Ok(Call::Tick));
+                self.record_call(Ok(WireCall::Tick));
                 Ok(Got::Tick)
             }
             None => {
-                self.record_call(Ok(Call::EmptyReceive));
+                self.record_call(Ok(WireCall::EmptyReceive));
                 Ok(Got::Idle)
             }
         }

@@ -1,6 +1,6 @@
 //! A file is replaced on a disk in memory, and a call fails or the machine crashes.
 
-use crate::mem_disk::{Deed, Failing, MemDisk};
+use crate::mem_disk::{DiskDeed, FailingDisk, MemDisk};
 use gw_cases::{number, wanted};
 use gw_program_cases::put;
 use gw_system::{Access, FileName, replace_file, show_file};
@@ -17,30 +17,30 @@ const NEW: &[u8] = b"new";
 
 /// A file: its text, and whether it was synced.
 #[derive(Drop)]
-struct Held {
+struct HeldFile {
     text: Vec<u8>,
     is_synced: bool,
 }
 
-impl Held {
+impl HeldFile {
     /// A copy of it, which was synced or not.
     fn copy(&self, alloc: Global, is_synced: bool) -> Result<Self, AllocError> {
         let text = Vec::from_slice(alloc, &self.text)?;
-        Ok(Held { text, is_synced })
+        Ok(HeldFile { text, is_synced })
     }
 }
 
 /// A name: its file, and those that had it since its folder was synced, the newest last.
 #[derive(Drop)]
-struct Place {
+struct DiskName {
     name: String,
-    file: Option<Held>,
-    earlier: Vec<Option<Held>>,
+    file: Option<HeldFile>,
+    earlier: Vec<Option<HeldFile>>,
 }
 
-impl Place {
+impl DiskName {
     fn new(alloc: Global, name: &str) -> Result<Self, AllocError> {
-        Ok(Place {
+        Ok(DiskName {
             name: String::from_str(alloc, name)?,
             file: None,
             earlier: Vec::new(alloc),
@@ -48,7 +48,7 @@ impl Place {
     }
 
     /// A copy of its file.
-    fn copy(&self, alloc: Global) -> Result<Option<Held>, AllocError> {
+    fn copy(&self, alloc: Global) -> Result<Option<HeldFile>, AllocError> {
         match &self.file {
             Some(held) => Ok(Some(held.copy(alloc, held.is_synced)?)),
             None => Ok(None),
@@ -56,7 +56,7 @@ impl Place {
     }
 
     /// It has another file, or none.
-    fn give(&mut self, alloc: Global, file: Option<Held>) -> Result<(), AllocError> {
+    fn give(&mut self, alloc: Global, file: Option<HeldFile>) -> Result<(), AllocError> {
         let was = self.copy(alloc)?;
         self.earlier.push(was)?;
         self.file = file;
@@ -77,7 +77,7 @@ impl Place {
     /// Its file has this text, which isn't synced.
     fn spoil(&mut self, alloc: Global, text: &[u8]) -> Result<(), AllocError> {
         if self.file.is_some() {
-            self.file = Some(Held {
+            self.file = Some(HeldFile {
                 text: Vec::from_slice(alloc, text)?,
                 is_synced: false,
             });
@@ -99,25 +99,30 @@ impl Place {
     }
 
     /// What a deed makes of it. `moved` is a copy of the file that may get this name.
-    fn take(&mut self, alloc: Global, deed: &Deed, moved: Option<Held>) -> Result<(), AllocError> {
+    fn take(
+        &mut self,
+        alloc: Global,
+        deed: &DiskDeed,
+        moved: Option<HeldFile>,
+    ) -> Result<(), AllocError> {
         match deed {
-            Deed::Created(at, _) if self.is(at) => {
-                let held = Held {
+            DiskDeed::Created(at, _) if self.is(at) => {
+                let held = HeldFile {
                     text: Vec::new(alloc),
                     is_synced: false,
                 };
                 self.give(alloc, Some(held))
             }
-            Deed::Wrote(at, more) if self.is(at) => self.write(alloc, more),
-            Deed::Spoiled(at, text) if self.is(at) => self.spoil(alloc, text),
-            Deed::Synced(at) if self.is(at) => self.sync(alloc),
-            Deed::FolderSynced(at) if self.is(at) => {
+            DiskDeed::Wrote(at, more) if self.is(at) => self.write(alloc, more),
+            DiskDeed::Spoiled(at, text) if self.is(at) => self.spoil(alloc, text),
+            DiskDeed::Synced(at) if self.is(at) => self.sync(alloc),
+            DiskDeed::FolderSynced(at) if self.is(at) => {
                 self.earlier = Vec::new(alloc);
                 Ok(())
             }
-            Deed::Renamed(_, to) if self.is(to) => self.give(alloc, moved),
-            Deed::Renamed(from, _) if self.is(from) => self.give(alloc, None),
-            Deed::Removed(at) if self.is(at) => self.give(alloc, None),
+            DiskDeed::Renamed(_, to) if self.is(to) => self.give(alloc, moved),
+            DiskDeed::Renamed(from, _) if self.is(from) => self.give(alloc, None),
+            DiskDeed::Removed(at) if self.is(at) => self.give(alloc, None),
             _ => Ok(()),
         }
     }
@@ -142,7 +147,7 @@ impl Place {
 }
 
 /// Appends what a crash leaves of a file; if it wasn't synced, any text.
-fn put_file(file: &Option<Held>, out: &mut Vec<u8>) -> Result<(), AllocError> {
+fn put_file(file: &Option<HeldFile>, out: &mut Vec<u8>) -> Result<(), AllocError> {
     match file {
         Some(held) if held.is_synced => {
             out.push(b' ')?;
@@ -168,12 +173,12 @@ fn replace(
 }
 
 /// How calls fail in a case, by its words.
-fn failing(word: &str, call: u64) -> io::Result<Failing> {
+fn failing(word: &str, call: u64) -> io::Result<FailingDisk> {
     match word {
-        "never" => Ok(Failing::Never),
-        "undone" => Ok(Failing::Undone(call)),
-        "done" => Ok(Failing::Done(call)),
-        "crashed" => Ok(Failing::Crashed(call)),
+        "never" => Ok(FailingDisk::Never),
+        "undone" => Ok(FailingDisk::Undone(call)),
+        "done" => Ok(FailingDisk::Done(call)),
+        "crashed" => Ok(FailingDisk::Crashed(call)),
         _ => Err(ErrorKind::InvalidData.into()),
     }
 }
@@ -192,7 +197,7 @@ pub fn replaced(alloc: Global, line: &str, out: &mut Vec<u8>) -> io::Result<()> 
     let how = wanted(words.next())?;
     let failing = failing(how, number(words.next())?)?;
     let file = FileName::of(alloc, "state")?;
-    let mut disk = MemDisk::new(alloc, Failing::Never);
+    let mut disk = MemDisk::new(alloc, FailingDisk::Never);
     if replace_file(&mut disk, &file, Access::Owner, OLD).is_err() {
         return Err(ErrorKind::OutOfMemory.into());
     }
@@ -201,8 +206,8 @@ pub fn replaced(alloc: Global, line: &str, out: &mut Vec<u8>) -> io::Result<()> 
     let Some(deeds) = disk.deeds() else {
         return Err(ErrorKind::OutOfMemory.into());
     };
-    let mut name = Place::new(alloc, &file.name)?;
-    let mut beside = Place::new(alloc, &file.beside)?;
+    let mut name = DiskName::new(alloc, &file.name)?;
+    let mut beside = DiskName::new(alloc, &file.beside)?;
     for deed in deeds {
         let moved = beside.copy(alloc)?;
         name.take(alloc, deed, moved)?;

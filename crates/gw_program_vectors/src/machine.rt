@@ -11,14 +11,13 @@ ghost use Rattle.gw_system.specs.Requests.{known};
 ghost use Rattle.gw_program_vectors.specs.Exchanges.{asking_of};
 ghost use Rattle.gw_program_vectors.specs.Reported.{IsReported};
 
-use crate::mem_log::{Failing, MemLog};
+use crate::mem_log::{FailingLog, MemLog};
 use crate::mem_requests::MemRequests;
 use gw_addr::BipAddr;
 use gw_cases::MemWriter;
 use gw_configuration::Port;
-use gw_log_words::{Calendar, Moment, moment_after};
 use gw_program_cases::{
-    Left, MemFiles, MemStreams, Program, Section, UNREADABLE, put, put_left, put_lines,
+    Left, MemCalendar, MemFiles, MemStreams, Program, Section, UNREADABLE, put, put_left, put_lines,
 };
 use gw_script::append_send;
 use gw_shell::{FailedStep, Fault, Host, LogFailure, Obstacle, Reason, SocketFailure, Step, run};
@@ -158,18 +157,6 @@ impl Store for MemStore<'_> {
     }
 }
 
-/// A clock that always shows the first second of 1970.
-#[derive(Drop)]
-pub struct MemCalendar;
-
-impl Calendar for MemCalendar {
-    ghost Shows = { λ _ _. ⊤ };
-
-    fn moment(&mut self) -> Option<Moment> {
-        moment_after(1)
-    }
-}
-
 /// A request that was made.
 #[derive(Drop)]
 pub struct MemAsked;
@@ -211,7 +198,7 @@ struct MemHost<'a> {
     opened: &'a RefCell<Vec<u8>>,
     answers: &'a RefCell<Vec<u8>>,
     log: Option<usize>,
-    failing_log: Failing,
+    failing_log: FailingLog,
     beside: Option<usize>,
     trial: Option<Vec<u8>>,
     is_cut: bool,
@@ -236,8 +223,8 @@ fn note_opened(opened: &RefCell<Vec<u8>>, name: &str) -> Result<(), AllocError> 
 
 impl MemHost<'_> {
     /// Which calls of the log of this name fail. Those beside the log take each write.
-    fn failing_of(&self, name: &str) -> Failing {
-        Failing {
+    fn failing_of(&self, name: &str) -> FailingLog {
+        FailingLog {
             write: if BESIDE.contains(&name) {
                 None
             } else {
@@ -583,7 +570,7 @@ fn reload_of(
 /// What one run leaves: its exit status and both streams, which logs the machine opened and what it closed, what requests were
 /// answered, and the text of the metrics.
 #[derive(Drop)]
-struct Served {
+struct ServedRun {
     left: Left,
     opened: Vec<u8>,
     answers: Vec<u8>,
@@ -621,7 +608,7 @@ fn run_with(
     config: &str,
     section: &Section<'_>,
     room: usize,
-) -> Result<Served, AllocError> {
+) -> Result<ServedRun, AllocError> {
     let words = section.call(alloc, "bacgw")?;
     let metrics = RefCell::new(Vec::new(alloc));
     let state_text = RefCell::new(Vec::new(alloc));
@@ -634,7 +621,7 @@ fn run_with(
         opened: &opened,
         answers: &answers,
         log: section.number("log "),
-        failing_log: Failing {
+        failing_log: FailingLog {
             sync: section.number("failing sync ").map(|number| number as u64),
             write: section.number("failing write ").map(|number| number as u64),
             writes: section
@@ -661,7 +648,7 @@ fn run_with(
     };
     let mut streams = section.streams(alloc, room)?;
     let code = run_on(alloc, words, config, &mut host, &mut streams);
-    Ok(Served {
+    Ok(ServedRun {
         left: Left::new(code, streams),
         closed: host.closed,
         opened: taken_from(alloc, &opened),

@@ -10,7 +10,7 @@ use std::alloc::Global;
 
 /// What a call did to a disk.
 #[derive(Drop)]
-pub enum Deed {
+pub enum DiskDeed {
     /// A new file has this name.
     Created(String, Access),
     /// More text was written to the file of this name.
@@ -31,7 +31,7 @@ pub enum Deed {
 
 /// How calls of a disk fail.
 #[derive(Clone, Copy)]
-pub enum Failing {
+pub enum FailingDisk {
     /// None does.
     Never,
     /// That of this number, from 1, does nothing and fails.
@@ -44,7 +44,7 @@ pub enum Failing {
 
 /// What becomes of a call.
 #[derive(Clone, Copy)]
-enum Fate {
+enum CallFate {
     Does,
     Fails,
     DoesAndFails,
@@ -54,10 +54,10 @@ enum Fate {
 #[derive(Drop)]
 pub struct MemDisk {
     alloc: Global,
-    deeds: Vec<Deed>,
+    deeds: Vec<DiskDeed>,
     forgot: bool,
     calls: u64,
-    failing: Failing,
+    failing: FailingDisk,
 }
 
 /// A file that was made on a disk in memory.
@@ -68,7 +68,7 @@ pub struct MemFile {
 
 impl MemDisk {
     /// An empty disk, whose calls fail so.
-    pub fn new(alloc: Global, failing: Failing) -> Self {
+    pub fn new(alloc: Global, failing: FailingDisk) -> Self {
         MemDisk {
             alloc,
             deeds: Vec::new(alloc),
@@ -79,12 +79,12 @@ impl MemDisk {
     }
 
     /// What was done to it, unless some of that was forgotten, since memory was refused.
-    pub fn deeds(&self) -> Option<&[Deed]> {
+    pub fn deeds(&self) -> Option<&[DiskDeed]> {
         if self.forgot { None } else { Some(&self.deeds) }
     }
 
     /// Has calls fail so from now on; the next one has the number 1.
-    pub fn fail(&mut self, failing: Failing) {
+    pub fn fail(&mut self, failing: FailingDisk) {
         self.calls = 0;
         self.failing = failing;
     }
@@ -95,21 +95,21 @@ impl MemDisk {
     }
 
     /// What becomes of the call that begins now.
-    fn next_fate(&mut self) -> Fate
+    fn next_fate(&mut self) -> CallFate
         ensures deeds { self.new.deeds ≡ self.old.deeds }
         ensures forgot { self.new.forgot ≡ self.old.forgot }
     {
         self.calls = self.calls.saturating_add(1);
         match self.failing {
-            Failing::Undone(call) if call == self.calls => Fate::Fails,
-            Failing::Done(call) if call == self.calls => Fate::DoesAndFails,
-            Failing::Crashed(call) if call <= self.calls => Fate::Fails,
-            _ => Fate::Does,
+            FailingDisk::Undone(call) if call == self.calls => CallFate::Fails,
+            FailingDisk::Done(call) if call == self.calls => CallFate::DoesAndFails,
+            FailingDisk::Crashed(call) if call <= self.calls => CallFate::Fails,
+            _ => CallFate::Does,
         }
     }
 
     /// Remembers what a call did.
-    fn remember(&mut self, deed: Deed)
+    fn remember(&mut self, deed: DiskDeed)
         ensures { Leads (IsNext (change_of deed)) (changes_of self.old.forgot self.old.deeds.items)
             (changes_of self.new.forgot self.new.deeds.items) }
     {
@@ -151,44 +151,44 @@ impl MemDisk {
     }
 
     /// A call that does this.
-    fn act(&mut self, deed: Deed) -> Result<(), StoreFault>
+    fn act(&mut self, deed: DiskDeed) -> Result<(), StoreFault>
         ensures { Leads (Does (change_of deed) result) (changes_of self.old.forgot self.old.deeds.items)
             (changes_of self.new.forgot self.new.deeds.items) }
     {
         match self.next_fate() {
-            Fate::Does => {
+            CallFate::Does => {
                 self.remember(deed);
                 Ok(())
             }
-            Fate::Fails => {
-                self.remember(Deed::Failed);
+            CallFate::Fails => {
+                self.remember(DiskDeed::Failed);
                 Err(StoreFault::System)
             }
-            Fate::DoesAndFails => {
+            CallFate::DoesAndFails => {
                 self.remember(deed);
-                self.remember(Deed::Failed);
+                self.remember(DiskDeed::Failed);
                 Err(StoreFault::System)
             }
         }
     }
 
     /// A call that does this to the file of a name, which has that text if it fails midway.
-    fn act_on(&mut self, name: String, deed: Deed, text: Vec<u8>) -> Result<(), StoreFault>
+    fn act_on(&mut self, name: String, deed: DiskDeed, text: Vec<u8>) -> Result<(), StoreFault>
         ensures { Leads (DoesTo (string_bytes name) (change_of deed) result) (changes_of self.old.forgot self.old.deeds.items)
             (changes_of self.new.forgot self.new.deeds.items) }
     {
         match self.next_fate() {
-            Fate::Does => {
+            CallFate::Does => {
                 self.remember(deed);
                 Ok(())
             }
-            Fate::Fails => {
-                self.remember(Deed::Failed);
+            CallFate::Fails => {
+                self.remember(DiskDeed::Failed);
                 Err(StoreFault::System)
             }
-            Fate::DoesAndFails => {
-                self.remember(Deed::Spoiled(name, text));
-                self.remember(Deed::Failed);
+            CallFate::DoesAndFails => {
+                self.remember(DiskDeed::Spoiled(name, text));
+                self.remember(DiskDeed::Failed);
                 Err(StoreFault::System)
             }
         }
@@ -204,7 +204,7 @@ impl Disk for MemDisk {
 
     fn remove(&mut self, name: &str) -> Result<(), StoreFault> {
         match self.copy(name) {
-            Some(name) => self.act(Deed::Removed(name)),
+            Some(name) => self.act(DiskDeed::Removed(name)),
             None => Err(StoreFault::Memory),
         }
     }
@@ -213,7 +213,7 @@ impl Disk for MemDisk {
         let (Some(made), Some(name)) = (self.copy(name), self.copy(name)) else {
             return Err(StoreFault::Memory);
         };
-        match self.act(Deed::Created(made, access)) {
+        match self.act(DiskDeed::Created(made, access)) {
             Ok(()) => Ok(MemFile { name }),
             Err(fault) => Err(fault),
         }
@@ -227,7 +227,7 @@ impl Disk for MemDisk {
         let (Some(more), Some(part)) = (self.copy_text(octets), self.copy_text(half)) else {
             return Err(StoreFault::Memory);
         };
-        self.act_on(name, Deed::Wrote(at, more), part)
+        self.act_on(name, DiskDeed::Wrote(at, more), part)
     }
 
     fn sync(&mut self, file: &MemFile) -> Result<(), StoreFault> {
@@ -235,19 +235,19 @@ impl Disk for MemDisk {
             return Err(StoreFault::Memory);
         };
         let nothing = Vec::new(self.alloc);
-        self.act_on(name, Deed::Synced(at), nothing)
+        self.act_on(name, DiskDeed::Synced(at), nothing)
     }
 
     fn rename(&mut self, from: &str, to: &str) -> Result<(), StoreFault> {
         let (Some(from), Some(to)) = (self.copy(from), self.copy(to)) else {
             return Err(StoreFault::Memory);
         };
-        self.act(Deed::Renamed(from, to))
+        self.act(DiskDeed::Renamed(from, to))
     }
 
     fn sync_folder(&mut self, name: &str) -> Result<(), StoreFault> {
         match self.copy(name) {
-            Some(name) => self.act(Deed::FolderSynced(name)),
+            Some(name) => self.act(DiskDeed::FolderSynced(name)),
             None => Err(StoreFault::Memory),
         }
     }

@@ -11,7 +11,7 @@ use std::cell::RefCell;
 
 /// What a name has from some moment on: a file with these octets, or none.
 #[derive(Drop)]
-pub struct Entry {
+pub struct NameEntry {
     name: String,
     octets: Option<Vec<u8>>,
 }
@@ -21,7 +21,7 @@ pub struct Entry {
 #[derive(Drop)]
 pub struct MemFolder<'a> {
     alloc: Global,
-    entries: Vec<Entry>,
+    entries: Vec<NameEntry>,
     changes: u64,
     failing: Option<u64>,
     shown: &'a RefCell<MemSink>,
@@ -41,7 +41,7 @@ fn show(shown: &RefCell<MemSink>, parts: &[&[u8]]) {
 const OUT_OF_MEMORY: &[u8] = b"out of memory";
 
 /// The octets that the file of a name has by these entries, if there is one.
-fn find<'e>(entries: &'e [Entry], name: &str) -> Option<&'e [u8]>
+fn find<'e>(entries: &'e [NameEntry], name: &str) -> Option<&'e [u8]>
     ensures { option_map (λ octets. octets.now) result ≡ shown_by entries.now name.now }
 {
     for entry in entries {
@@ -81,7 +81,7 @@ impl<'a> MemFolder<'a> {
         ensures err { OnErr result (self.new.entries.items ≡ self.old.entries.items) }
     {
         let name = String::from_str(self.alloc, name)?;
-        match self.entries.insert(0, Entry { name, octets }) {
+        match self.entries.insert(0, NameEntry { name, octets }) {
             Ok(()) => Ok(()),
             Err(_) => Err(AllocError),
         }

@@ -7,7 +7,7 @@ use gw_script::{OctetSink, WriteFailed};
 
 /// Which calls of a log fail.
 #[derive(Clone, Copy)]
-pub struct Failing {
+pub struct FailingLog {
     /// The sync of this number, from 0.
     pub sync: Option<u64>,
     /// The writes from this number, from 0.
@@ -24,12 +24,12 @@ pub struct MemLog<S> {
     is_unsynced: bool,
     syncs: u64,
     writes: u64,
-    failing: Failing,
+    failing: FailingLog,
 }
 
 impl<S> MemLog<S> {
     /// One of which these calls fail.
-    pub fn new(text: S, failing: Failing) -> Self {
+    pub fn new(text: S, failing: FailingLog) -> Self {
         MemLog {
             text,
             is_unsynced: false,

@@ -5,8 +5,7 @@ ghost use Rattle.std.specs.Prelude.{⊤};
 use gw_cases::{MemSource, edited};
 use gw_ending::Fault;
 use gw_ending::reading::ConfigFiles;
-use gw_log_words::{Calendar, Moment, moment_after};
-use gw_program_cases::{Left, MemFiles, MemStreams, Program, Section, put_left};
+use gw_program_cases::{Left, MemCalendar, MemFiles, MemStreams, Program, Section, put_left};
 use gw_system::ReadFailure;
 use gw_tools::{Machine, run};
 use gw_wire::StoreFault;
@@ -14,21 +13,9 @@ use std::alloc::{AllocError, Global};
 use std::io;
 use std::process::ExitCode;
 
-/// A clock that always shows the first second of 1970.
-#[derive(Drop)]
-pub struct MemCalendar;
-
-impl Calendar for MemCalendar {
-    ghost Shows = { λ _ _. ⊤ };
-
-    fn moment(&mut self) -> Option<Moment> {
-        moment_after(1)
-    }
-}
-
 /// A request that was made: its text.
 #[derive(Drop)]
-pub struct MemAsked {
+pub struct AskedText {
     text: Vec<u8>,
 }
 
@@ -39,7 +26,7 @@ struct MemMachine {
 }
 
 impl Machine for MemMachine {
-    type Asked = MemAsked;
+    type Asked = AskedText;
 
     type Calendar = MemCalendar;
 
@@ -52,12 +39,12 @@ impl Machine for MemMachine {
         alloc: Global,
         _name: &str,
         text: &[u8],
-    ) -> Result<MemAsked, StoreFault> {
+    ) -> Result<AskedText, StoreFault> {
         if self.answer.is_none() {
             return Err(StoreFault::System);
         }
         match Vec::from_slice(alloc, text) {
-            Ok(text) => Ok(MemAsked { text }),
+            Ok(text) => Ok(AskedText { text }),
             Err(_) => Err(StoreFault::Memory),
         }
     }
@@ -65,7 +52,7 @@ impl Machine for MemMachine {
     fn await_answer(
         &self,
         alloc: Global,
-        asked: &MemAsked,
+        asked: &AskedText,
         _seconds: u8,
     ) -> Result<Option<Vec<u8>>, ReadFailure> {
         let Some(answer) = &self.answer else {

@@ -15,7 +15,7 @@ use std::io::{ErrorKind, Write};
 /// A file in memory. A write takes what is left of a line at most, and so many octets, but one at least. What it is given and that it
 /// is synced is shown.
 #[derive(Drop)]
-pub struct MemFile<'a> {
+pub struct NamedMemFile<'a> {
     octets: Vec<u8>,
     is_unsynced: bool,
     most: usize,
@@ -51,7 +51,7 @@ fn taken(text: &[u8], most: usize) -> usize
     line.min(most.max(1))
 }
 
-impl OctetSink for MemFile<'_> {
+impl OctetSink for NamedMemFile<'_> {
     ghost held = { λ file. Some file.octets.items };
 
     ghost NeverFails = { λ _. ⊥ };
@@ -67,7 +67,7 @@ impl OctetSink for MemFile<'_> {
     }
 }
 
-impl Lasting for MemFile<'_> {
+impl Lasting for NamedMemFile<'_> {
     ghost IsLasting = { λ file. file.is_unsynced ≡ false };
 
     ghost Syncs = { λ was _ is. is.octets ≡ was.octets };
@@ -81,10 +81,10 @@ impl Lasting for MemFile<'_> {
 
 impl<'a> MemNamedFiles<'a> {
     /// An empty file.
-    fn file(&self) -> MemFile<'a>
+    fn file(&self) -> NamedMemFile<'a>
         ensures { result.octets.items ≡ [] }
     {
-        MemFile {
+        NamedMemFile {
             octets: Vec::new(self.alloc),
             is_unsynced: false,
             most: self.most,
@@ -108,11 +108,11 @@ impl<'a> MemNamedFiles<'a> {
 }
 
 impl<'a> NamedFiles for MemNamedFiles<'a> {
-    type File = MemFile<'a>;
+    type File = NamedMemFile<'a>;
 
     ghost left = { λ files. Some files.left.octets };
 
-    fn renewed(&mut self, _file: &MemFile<'a>) -> Option<MemFile<'a>> {
+    fn renewed(&mut self, _file: &NamedMemFile<'a>) -> Option<NamedMemFile<'a>> {
         if self.is_renamed() {
             Some(self.file())
         } else {
@@ -120,7 +120,7 @@ impl<'a> NamedFiles for MemNamedFiles<'a> {
         }
     }
 
-    fn leave(&mut self, file: MemFile<'a>) {
+    fn leave(&mut self, file: NamedMemFile<'a>) {
         self.left.add(&file.octets);
         show(self.shown, b"|");
     }
