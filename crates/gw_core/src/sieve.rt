@@ -53,6 +53,24 @@ impl Sieved {
     }
 }
 
+/// The verdict on an ask that the rule of this number decides, or none.
+#[inline(always)]
+fn verdict_on(ask: &Ask, policy: &Policy, by: Option<u16>, is_allowed: bool) -> Verdict
+    ensures { result ≡ record {
+      ask = ask.now;
+      is_allowed = is_allowed;
+      by = by;
+      is_quiet = is_quiet_by policy.now by;
+    } }
+{
+    Verdict {
+        ask: *ask,
+        is_allowed,
+        by,
+        is_quiet: policy.is_quiet(by),
+    }
+}
+
 /// Puts asks to the policy of a gateway one by one, for a guard. It keeps the refusals, by which rule each ask was decided, and
 /// whole only those verdicts that the guard wants to see whole.
 ///
@@ -95,24 +113,6 @@ impl<'a, G: Guard> Sieve<'a, G> {
         }
     }
 
-    /// The verdict on an ask that the rule of this number decides, or none.
-    #[inline(always)]
-    fn verdict(&self, ask: &Ask, by: Option<u16>, is_allowed: bool) -> Verdict
-        ensures { result ≡ record {
-          ask = ask.now;
-          is_allowed = is_allowed;
-          by = by;
-          is_quiet = is_quiet_by self.now.policy by;
-        } }
-    {
-        Verdict {
-            ask: *ask,
-            is_allowed,
-            by,
-            is_quiet: self.policy.is_quiet(by),
-        }
-    }
-
     /// What it kept.
     #[inline(always)]
     pub(crate) fn into_sieved(self) -> Sieved
@@ -139,13 +139,13 @@ impl<G: Guard> Asker for Sieve<'_, G> {
         let (by, is_allowed) = self.policy.verdict(ask);
         let is_kept = self.guard.keeps(ask, by, is_allowed);
         if is_kept || !is_allowed {
-            let verdict = self.verdict(ask, by, is_allowed);
+            let verdict = verdict_on(ask, self.policy, by, is_allowed);
             self.sieved.add(&verdict, is_kept)?;
         } else {
             self.sieved.deciders.push(by)?;
         }
-        let heard = self.verdict(ask, by, is_allowed);
-        self.heard.add(&[heard]);
+        self.heard
+            .add(&[verdict_on(ask, self.policy, by, is_allowed)]);
         Ok(is_allowed)
     }
 

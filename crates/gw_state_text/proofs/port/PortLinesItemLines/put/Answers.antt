@@ -2,7 +2,7 @@ use Rattle.std.proofs.Common.{ap}
 use Rattle.std.specs.List.{flat_map}
 use Rattle.gw_state_text.specs.Text.{device_line, entry_line, entry_word, peer_word}
 use Rattle.gw_state_text.proofs.PutLemmas.{before, grown_as, named}
-use Rattle.gw_state_text.proofs.port.PortsItemLines.put.Goals as goal
+use Rattle.gw_state_text.proofs.port.PortLinesItemLines.put.Goals as goal
 
 pub returns : goal.returns
 returns c =
