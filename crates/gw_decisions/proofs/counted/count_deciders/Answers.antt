@@ -1,6 +1,5 @@
-use Rattle.std.proofs.Common.{◌≡◌, ◌∙◌, ◌<◌, ◌+◌, ◌≤◌, List, Option, ℕ, None, subst, sym, refl, rules, arith, take, slice_index_or, length}
+use Rattle.std.proofs.Common.{◌≡◌, ◌∙◌, ◌≤◌, List, Option, ℕ, None, subst, sym, arith, take}
 use Rattle.std.proofs.lemmas.List.{take_all}
-use Rattle.gw_decisions.specs.tally.Tally.{place_of}
 use Rattle.gw_decisions.proofs.CountedLemmas.{AreOwing, owing_counted, owing_none, owing_one, owing_paid, owing_same}
 use Rattle.gw_decisions.proofs.counted.count_deciders.Goals as goal
 use Rattle.gw_decisions.proofs.counted.count_deciders.Goals.{then-next-place, else-next-place}
