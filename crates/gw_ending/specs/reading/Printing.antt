@@ -29,7 +29,9 @@ abbrev pub LeavesEnding : (text : List ℕ) → (ends : Result (Unit {0}) Fault)
 LeavesEnding text ends held holds outcome =
     ((outcome ≡ ends) × Appends held holds text) ⊎ ((outcome ≡ Err fault.Write) × AppendsFront held holds text)
 
--- What printing leaves of what a command says, or of why it says nothing.
+-- What printing leaves of what a command says, of which a failed write may leave a front; or of why it says nothing.
 abbrev pub LeavesSaid : Result Said Fault → Option (List ℕ) → Option (List ℕ) → Result (Unit {0}) Fault → Type 0
-LeavesSaid (Ok said) held holds outcome = LeavesEnding said.text.items said.ends held holds outcome
+LeavesSaid (Ok said) held holds outcome =
+    ((outcome ≡ said.ends) × Appends held holds said.text.items)
+    ⊎ ((outcome ≡ Err said.unprinted) × AppendsFront held holds said.text.items)
 LeavesSaid (Err f) held holds outcome = (outcome ≡ Err f) × (holds ≡ held)

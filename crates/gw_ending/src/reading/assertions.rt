@@ -2,6 +2,7 @@
 
 ghost use Rattle.std.specs.Prelude.{◌≡◌, ◌++◌, [], IfOk, OnOk};
 ghost use Rattle.std.specs.Io.Buffered.{writer_buffer, writer_contents};
+ghost use Rattle.gw_ending.specs.declared.fault.Fault.TheVariants as fault;
 ghost use Rattle.gw_ending.specs.reading.Printing.{LeavesEnding};
 ghost use Rattle.gw_ending.specs.reading.Assertions.{assertion_name, decider_name, do_hold, holds, judged_text, outcome_of_judged, unheld_line, unheld_text, unheld_words, verdict_text};
 
@@ -141,11 +142,9 @@ pub fn put_unheld(out: &mut Vec<u8>, config: &Config, judged: &[Judged]) -> Resu
 pub fn said_of_judged(text: Vec<u8>, judged: &[Judged]) -> Said
     ensures text { result.text ≡ text }
     ensures ends { result.ends ≡ outcome_of_judged judged.now }
+    ensures unprinted { result.unprinted ≡ fault.Write }
 {
-    Said {
-        text,
-        ends: outcome_of_judged(judged),
-    }
+    Said::ending(text, outcome_of_judged(judged))
 }
 
 /// Prints a text of assertions that were judged so, which says how the command ends.

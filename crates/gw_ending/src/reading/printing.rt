@@ -65,11 +65,14 @@ pub fn print_ending<W: Write + Drop>(
     }
 }
 
-/// What a command says, and how it ends once that is printed.
+/// What a command says, and how it ends.
 #[derive(Drop)]
 pub struct Said {
     pub text: Vec<u8>,
+    /// How it ends once the text is printed.
     pub ends: Result<(), Fault>,
+    /// How it ends if the text can't be printed.
+    pub unprinted: Fault,
 }
 
 impl Said {
@@ -77,13 +80,40 @@ impl Said {
     pub fn well(text: Vec<u8>) -> Said
         ensures text { result.text ≡ text }
         ensures ends { result.ends ≡ Ok tt }
+        ensures unprinted { result.unprinted ≡ fault.Write }
     {
-        Said { text, ends: Ok(()) }
+        Said::ending(text, Ok(()))
+    }
+
+    /// A text after which a command ends so.
+    pub fn ending(text: Vec<u8>, ends: Result<(), Fault>) -> Said
+        ensures text { result.text ≡ text }
+        ensures ends { result.ends ≡ ends }
+        ensures unprinted { result.unprinted ≡ fault.Write }
+    {
+        Said {
+            text,
+            ends,
+            unprinted: Fault::Write,
+        }
+    }
+
+    /// What is said of a fault, with which a command ends even if the text can't be printed.
+    pub fn of_fault(text: Vec<u8>, fault: Fault) -> Said
+        ensures text { result.text ≡ text }
+        ensures ends { result.ends ≡ Err fault }
+        ensures unprinted { result.unprinted ≡ fault }
+    {
+        Said {
+            text,
+            ends: Err(fault),
+            unprinted: fault,
+        }
     }
 }
 
-/// Prints what a command says; if it says nothing, why not is how it ends. `Write` if a write or the flush fails; then a front
-/// of the text is written.
+/// Prints what a command says; if it says nothing, why not is how it ends. If a write or the flush fails, a front of the text is
+/// written, and it ends as it says of that.
 pub fn print_said<W: Write + Drop>(
     said: Result<Said, Fault>,
     output: &mut BufWriter<W>,
@@ -92,9 +122,10 @@ pub fn print_said<W: Write + Drop>(
         (writer_contents W.contents output.old) (writer_contents W.contents output.new) result }
     ensures flush { OnOk result (writer_buffer output.new ≡ []) }
 {
-    match said {
-        Ok(said) => print_ending(&said.text, said.ends, output),
-        Err(fault) => Err(fault),
+    let said = said?;
+    match print(&said.text, output) {
+        Ok(()) => said.ends,
+        Err(_) => Err(said.unprinted),
     }
 }
 
