@@ -58,7 +58,7 @@ fn routing_note(routes: bool) -> &'static [u8]
 
 /// What is written of a machine at the start: that it routes IP past the gateway, if more is asked for.
 pub fn warning_of<H: Host>(host: &H, is_asked: bool) -> &'static [u8]
-    ensures { IsWarning (H.RoutesIp host.now) is_asked result.now }
+    ensures { IsWarning (H.offers host.now).RoutesIp is_asked result.now }
 {
     if is_asked {
         routing_note(host.routes_ip())

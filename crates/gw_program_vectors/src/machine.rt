@@ -252,23 +252,17 @@ impl<'a> Host for MemHost<'a> {
 
     ghost Answers = { λ _ _. ⊤ };
 
-    ghost FileReads = { λ _ _ _. ⊤ };
-
-    ghost LastDenials = { λ _ _ _. ⊤ };
-
-    ghost StoreOpens = { λ _ _ _ _. ⊤ };
-
-    ghost ReloadsOpen = { λ _ _ _ requests. asking_of requests.exchanges ≡ known [] };
-
-    ghost LogOpens = { λ _ _ _. ⊤ };
-
-    ghost LogIsCut = { λ host _ is_cut. host.is_cut ≡ is_cut };
-
-    ghost SocketsOpen = { λ _ _ _. ⊤ };
-
-    ghost RoutesIp = { λ host routes. host.routes ≡ routes };
-
-    ghost Waits = { λ _ _ _. ⊤ };
+    ghost offers = { λ host. record {
+      FileReads = λ _ _. ⊤;
+      LastDenials = λ _ _. ⊤;
+      StoreOpens = λ _ _ _. ⊤;
+      ReloadsOpen = λ _ _ requests. asking_of requests.exchanges ≡ known [];
+      LogOpens = λ _ _. ⊤;
+      LogIsCut = λ _ is_cut. host.is_cut ≡ is_cut;
+      Waits = λ _ _. ⊤;
+      SocketsOpen = λ _ _. ⊤;
+      RoutesIp = λ routes. host.routes ≡ routes;
+    } };
 
     ghost Closes = { λ host sockets log. host.closed ≡ Some (sockets, log) };
 

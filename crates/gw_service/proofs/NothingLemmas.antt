@@ -21,7 +21,6 @@ use Rattle.gw_watchers.specs.files.Trial.{is_same_format}
 use Rattle.gw_watchers.specs.declared.beside.Beside.{Beside}
 use Rattle.gw_watchers.specs.declared.trial.Trial.{Trial}
 use Rattle.gw_wire.specs.declared.store.StoreFault.{StoreFault}
-use Rattle.gw_service.specs.Chain.{Manner}
 use Rattle.gw_service.specs.Holding.{held_text, more_holding, unheld}
 use Rattle.gw_service.specs.Keeping.{IsPassed, failing_in, troubles_in, unkept_in}
 use Rattle.gw_service.specs.Kept.{Given, RunsFrom, RunsFromHolding, first_stage, reporting_of, rest, unkept_of, watched_holding_manner_of, watched_manner_of}

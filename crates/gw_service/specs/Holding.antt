@@ -15,11 +15,11 @@ use Rattle.gw_turns.specs.declared.announcing.Announcing.{Announcing}
 use Rattle.gw_turns.specs.declared.serving.ServeFault.{ServeFault}
 use Rattle.gw_turns.specs.declared.serving.ServeFault.TheVariants as serving
 use Rattle.gw_wire.specs.Wire.{Call, Records, arrival}
-use Rattle.gw_notices.specs.declared.troubles.Troubles.{Troubles}
 use Rattle.gw_system.specs.Requests.{Asking}
-use Rattle.gw_service.specs.Chain.{EndsSo, IsLink, IsServed, IsTicked, Link, Manner, Stage, ended, link_text, manner, served, stage, stopping, ticked, withheld}
-use Rattle.gw_service.specs.Metering.{metered, meters_by}
-use Rattle.gw_service.specs.Stats.{Reporting, all_stats, due_stats}
+use Rattle.gw_service.specs.Chain.{EndsSo, IsLink, IsServed, IsTicked, Link, Manner, Stage, ended, link_text, served, stage, stopping, ticked, withheld}
+use Rattle.gw_service.specs.Conduct.{Conduct, manner_by}
+use Rattle.gw_service.specs.Metering.{metered}
+use Rattle.gw_service.specs.Stats.{Reporting}
 use Rattle.gw_service.specs.declared.holding.Holding.{Holding}
 use Rattle.gw_service.specs.declared.running.RunEnd.{RunEnd}
 use Rattle.gw_service.specs.declared.running.Running.{Running}
@@ -79,13 +79,21 @@ abbrev pub written_line : List ℕ
 written_line = codes "bacgw: log written again\n"
 
 -- what such a keeper does, by what the keeper in it does
-abbrev pub holding_manner : {K : Type 0} → (Passes : K → State → Event → K → Bool → Type 0) → (Ticks : K → State → K → Type 0)
-    → (Adopts : K → Configuration → State → K → Type 0) → (troubles : K → Troubles) → (unkept : K → ℕ)
-    → (more : K → (rules : Bool) → State → List ℕ) → Reporting → (Lasts : K → State → K → Type 0) → Manner (Holding K)
-holding_manner Passes Ticks Adopts troubles unkept more how Lasts =
-    manner (PassesHolding Passes) (TicksHolding Ticks) (AdoptsHolding Adopts) (λ h. troubles h.keeper)
-    (due_stats (λ h. unkept h.keeper) (more_holding more) how) (all_stats (λ h. unkept h.keeper) (more_holding more) how)
-    (meters_by how.start) (TicksHolding Lasts)
+abbrev pub conduct_holding : {K : Type 0} → Conduct K → Conduct (Holding K)
+conduct_holding conduct = record {
+  Ticks = TicksHolding conduct.Ticks;
+  Adopts = AdoptsHolding conduct.Adopts;
+  Lasts = TicksHolding conduct.Lasts;
+  troubles = λ h. conduct.troubles h.keeper;
+  unkept = λ h. conduct.unkept h.keeper;
+  more = more_holding conduct.more;
+  tries = λ h. conduct.tries h.keeper;
+  decisions = λ h. conduct.decisions h.keeper;
+  losses = λ h. conduct.losses h.keeper;
+}
+
+abbrev pub holding_manner : {K : Type 0} → (Passes : K → State → Event → K → Bool → Type 0) → Conduct K → Reporting → Manner (Holding K)
+holding_manner Passes conduct how = manner_by (PassesHolding Passes) (conduct_holding conduct) how
 
 -- ---- a step
 

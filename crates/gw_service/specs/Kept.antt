@@ -20,6 +20,8 @@ use Rattle.gw_turns.specs.declared.serving.Served.{Served}
 use Rattle.gw_wire.specs.declared.store.StoreFault.{StoreFault}
 use Rattle.gw_turns.specs.declared.tally.DropTally.{DropTally}
 use Rattle.gw_system.specs.Host.{LogOpening}
+use Rattle.gw_system.specs.Offers.{Offers}
+use Rattle.gw_wire.specs.Wire.{Call}
 use Rattle.gw_watchers.specs.Watching.{HasWatched, Watching}
 use Rattle.gw_system.specs.Opening.{IsNote}
 use Rattle.gw_system.specs.Requests.{Asking, GoesOn, answered, recorded_by}
@@ -28,7 +30,8 @@ use Rattle.gw_system.specs.declared.reading.ReadFailure.{ReadFailure}
 use Rattle.gw_system.specs.declared.reading.ReadFailure.TheVariants as reading
 use Rattle.gw_system.specs.declared.store.StoreKind.{StoreKind}
 use Rattle.gw_system.specs.declared.store.StoreKind.TheVariants as kind
-use Rattle.gw_service.specs.Chain.{Begins, Link, Manner, Runs, Stage, chain_text, manner, stage}
+use Rattle.gw_service.specs.Chain.{Begins, Link, Manner, Runs, Stage, chain_text, stage}
+use Rattle.gw_service.specs.Conduct.{manner_by}
 use Rattle.gw_service.specs.Holding.{Hold, RunsHolding, hold, holding_manner, more_holding, unheld}
 use Rattle.gw_service.specs.declared.holding.Holding.{Holding}
 use Rattle.gw_service.specs.declared.running.RunEnd.{RunEnd}
@@ -36,16 +39,16 @@ use Rattle.gw_service.specs.declared.running.RunEnd.TheVariants as end
 use Rattle.gw_notices.specs.metrics.Writing.{Metering, nothing_written}
 use Rattle.gw_notices.specs.Parts.{IsTrialLine}
 use Rattle.gw_notices.specs.Startup.{IsWarning, startup_line}
-use Rattle.gw_service.specs.Metering.{MetersLast, lost_by, metered, meters_by, seconds_of}
+use Rattle.gw_service.specs.Metering.{MetersLast, lost_by, metered, seconds_of}
 use Rattle.gw_service.specs.Fault.{fault_of_opening, fault_of_serving}
 use Rattle.gw_service.specs.Keeping.{IsPassed, failing_in, unkept_in}
 use Rattle.gw_notices.specs.Notices.{no_status_line, no_troubles, notice_of, stop_line}
-use Rattle.gw_service.specs.Watch.{IsKeptAtTickBeside, IsKeptForBeside, IsKeptLastBeside, IsUnwatched, WatchNames, WatchesUnder, is_watched, more_of, troubles_of, unaudited_note, watch_names}
-use Rattle.gw_service.specs.Serving.{AreOpen, ArentOpen, Ends, LeavesServed, LogStays, Machine, Service, ends, log_held, service}
+use Rattle.gw_service.specs.Watch.{IsUnwatched, WatchNames, WatchesUnder, conduct_beside, is_watched, more_of, troubles_of, unaudited_note, watch_names}
+use Rattle.gw_service.specs.Serving.{AreOpen, ArentOpen, Ends, LeavesServed, LogStays, Machine, Service, ends, log_held, machine_of, service}
 use Rattle.gw_service.specs.Start.{BeginsAs, IsStateRead, counts_of, start_text}
 use Rattle.gw_notices.specs.Reload.{counts_since}
 use Rattle.gw_notices.specs.declared.checksum.Checksum.{Checksum}
-use Rattle.gw_service.specs.Stats.{Reporting, all_stats, due_stats, end_stats, reporting}
+use Rattle.gw_service.specs.Stats.{Reporting, end_stats, reporting}
 use Rattle.gw_service.specs.declared.edition.Edition.{Edition}
 use Rattle.gw_service.specs.declared.fault.ServiceFault.{ServiceFault}
 use Rattle.gw_service.specs.declared.fault.ServiceFault.TheVariants as fault
@@ -186,8 +189,7 @@ unkept_of k = unkept_in k.second
 abbrev pub watched_manner_of : {S L : Type 0} → (S → Option (List ℕ)) → (L → Option (List ℕ)) → Reporting
     → Manner (BothGuards (Watching L L) (Kept S))
 watched_manner_of held log_held how =
-    manner (PassesBoth (HasWatched log_held log_held) (IsPassed held)) (IsKeptAtTickBeside held) (IsKeptForBeside held) troubles_of
-    (due_stats unkept_of more_of how) (all_stats unkept_of more_of how) (meters_by how.start) (IsKeptLastBeside held)
+    manner_by (PassesBoth (HasWatched log_held log_held) (IsPassed held)) (conduct_beside held) how
 
 -- the outcome of a run that was asked to stop, by why the state isn't kept, if it isn't
 abbrev pub outcome_of_stop : Option StoreFault → Result (Unit {0}) ServiceFault
@@ -317,8 +319,7 @@ pub record RunsWatched {S Q L : Type 0} (given : Given S Q L) (c : Configuration
 abbrev pub watched_holding_manner_of : {S L : Type 0} → (S → Option (List ℕ)) → (L → Option (List ℕ)) → Reporting
     → Manner (Holding (BothGuards (Watching L L) (Kept S)))
 watched_holding_manner_of held log_held how =
-    holding_manner (PassesBoth (HasWatched log_held log_held) (IsPassed held)) (IsKeptAtTickBeside held) (IsKeptForBeside held) troubles_of
-    unkept_of more_of how (IsKeptLastBeside held)
+    holding_manner (PassesBoth (HasWatched log_held log_held) (IsPassed held)) (conduct_beside held) how
 
 pub record HoldsWatched {S Q L : Type 0} (given : Given S Q L) (c : Configuration) (how : Service) (before after : Ends) (text : List ℕ)
     (outcome : Result (Unit {0}) ServiceFault) : Type 0 where
@@ -449,6 +450,16 @@ pub record WholeMachine (Log Sockets S Q : Type 0) : Type 1 where
 abbrev pub whole_machine : {Log Sockets S Q : Type 0} → Machine Log Sockets → StateMachine S Q → (Waits : List ℕ → Bool → Type 0)
     → WholeMachine Log Sockets S Q
 whole_machine machine states Waits = record { machine = machine; states = states; Waits = Waits }
+
+-- by what it offers, how it closes, and what a log, sockets, a store and what asks show
+abbrev pub states_of : {Log Sockets S Q : Type 0} → Offers Log Sockets S Q → (S → Option (List ℕ)) → (Q → Asking) → StateMachine S Q
+states_of offers held said = state_machine offers.FileReads offers.LastDenials offers.StoreOpens offers.ReloadsOpen held said
+
+abbrev pub whole_of : {Log Sockets S Q : Type 0} → Offers Log Sockets S Q → (Closes : Sockets → Option Log → Type 0)
+    → (log_held : Log → Option (List ℕ)) → (calls : Sockets → Option (List Call)) → (held : S → Option (List ℕ)) → (said : Q → Asking)
+    → WholeMachine Log Sockets S Q
+whole_of offers Closes log_held calls held said =
+    whole_machine (machine_of offers Closes log_held calls) (states_of offers held said) offers.Waits
 
 -- how options ask to serve
 abbrev pub service_by : RunOptions → Service

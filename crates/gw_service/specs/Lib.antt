@@ -1,4 +1,5 @@
 pub mod Chain
+pub mod Conduct
 pub mod Counts
 pub mod Edition
 pub mod Fault

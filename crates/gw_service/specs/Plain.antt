@@ -4,14 +4,14 @@ use Rattle.gw_configuration.specs.Configuration.{Configuration}
 use Rattle.gw_core.specs.State.{State}
 use Rattle.gw_turns.specs.declared.serving.ServeFault.{ServeFault}
 use Rattle.gw_watchers.specs.Watching.{Watching}
-use Rattle.gw_service.specs.Chain.{Manner, manner}
+use Rattle.gw_service.specs.Chain.{Manner}
+use Rattle.gw_service.specs.Conduct.{Conduct, manner_by}
 use Rattle.gw_service.specs.Holding.{holding_manner, more_holding, unheld}
-use Rattle.gw_service.specs.Keeping.{IsKeptAtTick, IsKeptFor, IsKeptLast, IsPassed, failing_in, troubles_in, unkept_in}
+use Rattle.gw_service.specs.Keeping.{IsKeptAtTick, IsKeptFor, IsKeptLast, IsPassed, failing_in, tries_in, troubles_in, unkept_in}
 use Rattle.gw_service.specs.Kept.{Given, KeepsFirst, Rest, RunsFrom, RunsFromHolding, first_stage, outcome_by, reporting_of}
-use Rattle.gw_service.specs.Metering.{meters_by}
 use Rattle.gw_service.specs.Serving.{Ends, Service}
 use Rattle.gw_service.specs.Start.{BeginsAs, counts_of}
-use Rattle.gw_service.specs.Stats.{Reporting, all_stats, due_stats, end_stats}
+use Rattle.gw_service.specs.Stats.{Reporting, end_stats}
 use Rattle.gw_service.specs.declared.fault.ServiceFault.{ServiceFault}
 use Rattle.gw_service.specs.declared.holding.Holding.{Holding}
 use Rattle.gw_service.specs.declared.keeping.Kept.{Kept}
@@ -21,11 +21,22 @@ use Rattle.gw_service.specs.declared.running.RunEnd.{RunEnd}
 abbrev pub no_more : {S : Type 0} → Kept S → (rules : Bool) → State → List ℕ
 no_more k rules w = []
 
--- what keeps the state of a gateway, by a store
+-- what it does, and nothing is watched
+abbrev pub conduct_alone : {S : Type 0} → (S → Option (List ℕ)) → Conduct (Kept S)
+conduct_alone held = record {
+  Ticks = IsKeptAtTick held;
+  Adopts = IsKeptFor held;
+  Lasts = IsKeptLast held;
+  troubles = troubles_in;
+  unkept = unkept_in;
+  more = no_more;
+  tries = tries_in;
+  decisions = λ _. None;
+  losses = λ _. record { unwatched = 0; trial_lines = 0; audit_lines = 0 };
+}
+
 abbrev pub manner_of : {S : Type 0} → (S → Option (List ℕ)) → Reporting → Manner (Kept S)
-manner_of held how =
-    manner (IsPassed held) (IsKeptAtTick held) (IsKeptFor held) troubles_in (due_stats unkept_in no_more how) (all_stats unkept_in no_more how) (meters_by how.start)
-    (IsKeptLast held)
+manner_of held how = manner_by (IsPassed held) (conduct_alone held) how
 
 -- A gateway of this configuration begins with what was saved, its state is kept at once, and then it runs for so many turns, and
 -- reports what it did.
@@ -44,7 +55,7 @@ pub record RunsKept {S Q L : Type 0} (given : Given S Q L) (c : Configuration) (
 -- It may go on if its log fails: what keeps the state is in what withholds what is denied while lines wait.
 abbrev pub holding_manner_of : {S : Type 0} → (S → Option (List ℕ)) → Reporting → Manner (Holding (Kept S))
 holding_manner_of held how =
-    holding_manner (IsPassed held) (IsKeptAtTick held) (IsKeptFor held) troubles_in unkept_in no_more how (IsKeptLast held)
+    holding_manner (IsPassed held) (conduct_alone held) how
 
 pub record HoldsKept {S Q L : Type 0} (given : Given S Q L) (c : Configuration) (how : Service) (before after : Ends) (text : List ℕ)
     (outcome : Result (Unit {0}) ServiceFault) : Type 0 where

@@ -14,6 +14,7 @@ use Rattle.gw_configuration.specs.Configuration.{Configuration}
 use Rattle.gw_configuration.specs.declared.port.Port.{Port}
 use Rattle.gw_notices.specs.Startup.{IsWarning}
 use Rattle.gw_system.specs.Host.{LogOpening}
+use Rattle.gw_system.specs.Offers.{Offers, OpensLog}
 use Rattle.gw_system.specs.Opening.{IsNote}
 use Rattle.gw_system.specs.declared.opening.LogFailure.{LogFailure}
 use Rattle.gw_system.specs.declared.opening.LogFailure.TheVariants as log_failure
@@ -103,6 +104,11 @@ machine LogOpens SocketsOpen RoutesIp Closes held calls = record {
   held = held;
   calls = calls;
 }
+
+-- by what it offers, how it closes, and what a log and sockets show
+abbrev pub machine_of : {Log Sockets S Q : Type 0} → Offers Log Sockets S Q → (Closes : Sockets → Option Log → Type 0)
+    → (Log → Option (List ℕ)) → (Sockets → Option (List Call)) → Machine Log Sockets
+machine_of offers Closes held calls = machine (OpensLog offers held) offers.SocketsOpen offers.RoutesIp Closes held calls
 
 -- The log is open: it is in the file of this name, and standard output is as it was; or it is
 -- standard output, whose buffer was flushed.

@@ -15,7 +15,8 @@ use Rattle.gw_watchers.specs.declared.files.fault.WatchFault.TheVariants as watc
 use Rattle.gw_watchers.specs.Watching.{Watching, ended_by, is_watching, with_marks}
 use Rattle.gw_watchers.specs.declared.beside.Beside.{Beside}
 use Rattle.gw_watchers.specs.declared.trial.Trial.{Trial}
-use Rattle.gw_service.specs.Keeping.{IsKeptAtTick, IsKeptFor, IsKeptLast, failing_in}
+use Rattle.gw_service.specs.Conduct.{Conduct}
+use Rattle.gw_service.specs.Keeping.{IsKeptAtTick, IsKeptFor, IsKeptLast, failing_in, tries_in, unkept_in}
 use Rattle.gw_service.specs.declared.fault.ServiceFault.{ServiceFault}
 use Rattle.gw_service.specs.declared.fault.ServiceFault.TheVariants as fault
 use Rattle.gw_service.specs.declared.keeping.Kept.{Kept}
@@ -190,3 +191,19 @@ is_unaudited audits is_named = not is_named && list_any (λ audit. audit) audits
 abbrev pub unaudited_note : (audits : List Bool) → (is_named : Bool) → List ℕ
 unaudited_note audits is_named =
     if is_unaudited audits is_named then codes "bacgw: audit = true writes nothing without --audit\n" else []
+
+-- ---- the whole
+
+-- what it does, by what a store holds
+abbrev pub conduct_beside : {S T A : Type 0} → (S → Option (List ℕ)) → Conduct (BothGuards (Watching T A) (Kept S))
+conduct_beside held = record {
+  Ticks = IsKeptAtTickBeside held;
+  Adopts = IsKeptForBeside held;
+  Lasts = IsKeptLastBeside held;
+  troubles = troubles_of;
+  unkept = λ k. unkept_in k.second;
+  more = more_of;
+  tries = λ k. tries_in k.second;
+  decisions = λ k. k.first.counts;
+  losses = losses_of;
+}

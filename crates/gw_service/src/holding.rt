@@ -2,7 +2,7 @@
 
 ghost use Rattle.std.specs.Prelude.{◌≡◌, ◌==◌, ◌&&◌, ◌++◌, IsOk, OnOk, length, not};
 ghost use Rattle.std.specs.Io.KnownBytes.{Appends};
-ghost use Rattle.gw_service.specs.Holding.{AdoptsHolding, DoesHolding, PassesHolding, TicksHolding, held_line, held_text, more_holding};
+ghost use Rattle.gw_service.specs.Holding.{PassesHolding, conduct_holding, held_line, held_text};
 
 use crate::keeping::StateKeeper;
 use crate::successor::Successor;
@@ -98,23 +98,7 @@ impl<K: Guard> Guard for Holding<K> {
 }
 
 impl<K: StateKeeper> StateKeeper for Holding<K> {
-    ghost Ticks = { TicksHolding K.Ticks };
-
-    ghost Adopts = { AdoptsHolding K.Adopts };
-
-    ghost Lasts = { TicksHolding K.Lasts };
-
-    ghost troubles = { λ h. K.troubles h.keeper };
-
-    ghost unkept = { λ h. K.unkept h.keeper };
-
-    ghost more = { more_holding K.more };
-
-    ghost tries = { λ h. K.tries h.keeper };
-
-    ghost decisions = { λ h. K.decisions h.keeper };
-
-    ghost losses = { λ h. K.losses h.keeper };
+    ghost conduct = { conduct_holding K.conduct };
 
     fn keep_at_tick(&mut self, alloc: Global, gateway: &Gateway) {
         self.keeper.keep_at_tick(alloc, gateway);

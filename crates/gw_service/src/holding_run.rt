@@ -105,7 +105,7 @@ impl<K: StateKeeper, Q: Requests, M: Store + Drop> HoldingRun<K, Q, M> {
         ensures comes { (c : Configuration) → self.old.running.origin ≡ origin_of c →
             let before = hold (stage_of Q.recorded c self.old.running (L.held log.old) (W.calls wire.old)) self.old.waiting in
             (d : Configuration) × (text : List ℕ) × (self.new.running.origin ≡ origin_of d)
-            × GoesTo (holding_manner K.Passes K.Ticks K.Adopts K.troubles K.unkept K.more (reporting_by schedule.now) K.Lasts) before result text
+            × GoesTo (holding_manner K.Passes K.conduct (reporting_by schedule.now)) before result text
             (hold (stage_of Q.recorded d self.new.running (L.held log.new) (W.calls wire.new)) self.new.waiting)
             × (E.NeverFails errors.old → Appends (E.held errors.old) (E.held errors.new) text) }
         ensures left { self.new.running.state.served.turns + self.new.running.state.left
@@ -139,7 +139,7 @@ impl<K: StateKeeper, Q: Requests, M: Store + Drop> HoldingRun<K, Q, M> {
         ensures comes { (c : Configuration) → self.old.running.origin ≡ origin_of c → (log : Option (List ℕ)) →
             let before = hold (stage_of Q.recorded c self.old.running log (W.calls wire.old)) self.old.waiting in
             (d : Configuration) × (text : List ℕ) × (self.new.running.origin ≡ origin_of d)
-            × GoesTo (holding_manner K.Passes K.Ticks K.Adopts K.troubles K.unkept K.more (reporting_by schedule.now) K.Lasts) before result text
+            × GoesTo (holding_manner K.Passes K.conduct (reporting_by schedule.now)) before result text
             (hold (stage_of Q.recorded d self.new.running log (W.calls wire.new)) self.new.waiting)
             × (E.NeverFails errors.old → Appends (E.held errors.old) (E.held errors.new) text) }
         ensures left { self.new.running.state.served.turns + self.new.running.state.left
@@ -190,7 +190,7 @@ impl<K: StateKeeper, Q: Requests, M: Store + Drop> HoldingRun<K, Q, M> {
         ensures comes { (c : Configuration) → self.old.running.origin ≡ origin_of c →
             let before = hold (stage_of Q.recorded c self.old.running (L.held log.old) (W.calls wire.old)) self.old.waiting in
             (d : Configuration) × (text : List ℕ) × (self.new.running.origin ≡ origin_of d)
-            × GoesTo (holding_manner K.Passes K.Ticks K.Adopts K.troubles K.unkept K.more (reporting_by schedule.now) K.Lasts) before result text
+            × GoesTo (holding_manner K.Passes K.conduct (reporting_by schedule.now)) before result text
             (hold (stage_of Q.recorded d self.new.running (L.held log.new) (W.calls wire.new)) self.new.waiting)
             × (E.NeverFails errors.old → Appends (E.held errors.old) (E.held errors.new) text) }
         ensures left { self.new.running.state.served.turns + self.new.running.state.left
@@ -226,7 +226,7 @@ impl<K: StateKeeper, Q: Requests, M: Store + Drop> HoldingRun<K, Q, M> {
         ensures serves { (c : Configuration) → self.old.running.origin ≡ origin_of c →
             let before = hold (stage_of Q.recorded c self.old.running (L.held log.old) (W.calls wire.old)) self.old.waiting in
             (d : Configuration) × (text : List ℕ) × (self.new.running.origin ≡ origin_of d)
-            × ServesHolding (holding_manner K.Passes K.Ticks K.Adopts K.troubles K.unkept K.more (reporting_by schedule.now) K.Lasts) self.old.running.state.left before result text
+            × ServesHolding (holding_manner K.Passes K.conduct (reporting_by schedule.now)) self.old.running.state.left before result text
             (hold (stage_of Q.recorded d self.new.running (L.held log.new) (W.calls wire.new)) self.new.waiting)
             × (E.NeverFails errors.old → Appends (E.held errors.old) (E.held errors.new) text) }
         ensures asking { is_stopped result ≡ true → IsAsking (Q.recorded self.new.running.requests) }
@@ -274,7 +274,7 @@ impl<K: StateKeeper, Q: Requests, M: Store + Drop> HoldingRun<K, Q, M> {
         ensures runs { (c : Configuration) → self.old.running.origin ≡ origin_of c →
             let before = hold (stage_of Q.recorded c self.old.running (L.held log.old) (W.calls wire.old)) self.old.waiting in
             (d : Configuration) × (text : List ℕ) × (self.new.running.origin ≡ origin_of d)
-            × RunsHolding (holding_manner K.Passes K.Ticks K.Adopts K.troubles K.unkept K.more (reporting_by schedule.now) K.Lasts) self.old.running.state.left before result text
+            × RunsHolding (holding_manner K.Passes K.conduct (reporting_by schedule.now)) self.old.running.state.left before result text
             (hold (stage_of Q.recorded d self.new.running (L.held log.new) (W.calls wire.new)) self.new.waiting)
             × (E.NeverFails errors.old → Appends (E.held errors.old) (E.held errors.new) text) }
         ensures asking { is_stopped result ≡ true → IsAsking (Q.recorded self.new.running.requests) }
@@ -302,10 +302,10 @@ impl<K: StateKeeper, Q: Requests, M: Store + Drop> HoldingRun<K, Q, M> {
         requires none { self.old.waiting ≡ [] }
         ensures runs { (c : Configuration) → self.old.running.origin ≡ origin_of c →
             let how = reporting_by schedule.now in
-            let before = stage_of Q.recorded c (record self.old.running { said = K.troubles self.old.running.keeper.keeper }) (L.held log.old) (W.calls wire.old) in
+            let before = stage_of Q.recorded c (record self.old.running { said = K.conduct.troubles self.old.running.keeper.keeper }) (L.held log.old) (W.calls wire.old) in
             let after = ends (L.held log.new) (W.calls wire.new) in
-            (text : List ℕ) × RunsFromHolding (holding_manner K.Passes K.Ticks K.Adopts K.troubles K.unkept K.more how K.Lasts)
-            (end_stats (λ h. K.unkept h.keeper) (more_holding K.more) how) how.start self.old.running.state.left before result after
+            (text : List ℕ) × RunsFromHolding (holding_manner K.Passes K.conduct how)
+            (end_stats (λ h. K.conduct.unkept h.keeper) (more_holding K.conduct.more) how) how.start self.old.running.state.left before result after
             (rest self.new.running.keeper (Q.recorded self.new.running.requests)) text
             × (E.NeverFails errors.old → Appends (E.held errors.old) (E.held errors.new) text) }
         ensures lasts { E.NeverFails errors.old → E.NeverFails errors.new }

@@ -3,12 +3,9 @@
 ghost use Rattle.std.specs.Prelude.{◌≡◌, ℕ, Bool, IsOk, List, OnOk, Option, false};
 ghost use Rattle.std.specs.Io.KnownBytes.{Appends};
 ghost use Rattle.gw_configuration.specs.Configuration.{Configuration};
-ghost use Rattle.gw_core.specs.State.{State};
 ghost use Rattle.gw_state.specs.Saved.{origin_of};
+ghost use Rattle.gw_service.specs.Conduct.{Conduct};
 ghost use Rattle.gw_service.specs.Keeping.{IsKeptAtTick, IsKeptFor, IsKeptLast, IsPassed, IsSuccessor, failing_in, tries_in, unkept_in};
-ghost use Rattle.gw_notices.specs.declared.metrics.counts.StateTries.{StateTries};
-ghost use Rattle.gw_notices.specs.declared.losses.Losses.{Losses};
-ghost use Rattle.gw_notices.specs.declared.troubles.Troubles.{Troubles};
 
 use crate::successor::Successor;
 use gw_core::{Gateway, Guard, SeenAsks, Taken};
@@ -24,64 +21,40 @@ use std::alloc::Global;
 
 /// What keeps the state of a gateway from stretch to stretch.
 pub trait StateKeeper: Guard {
-    /// What it does at a tick, in this state of the gateway.
-    ghost Ticks: { Self → State → Self → Type 0 };
-
-    /// What it does if a gateway of another configuration goes on in this state.
-    ghost Adopts: { Self → Configuration → State → Self → Type 0 };
-
-    /// What it does at the end, in this state of the gateway.
-    ghost Lasts: { Self → State → Self → Type 0 };
-
-    /// What isn't kept or recorded.
-    ghost troubles: { Self → Troubles };
-
-    /// How many tries failed so far.
-    ghost unkept: { Self → ℕ };
-
-    /// What it reports of itself beside that, with how many asks each rule decided or without, by the state of the gateway.
-    ghost more: { Self → (rules : Bool) → State → List ℕ };
-
-    /// How the state is kept, if it is.
-    ghost tries: { Self → Option StateTries };
-
-    /// How many asks each rule decided, if that is counted.
-    ghost decisions: { Self → Option (List ℕ) };
-
-    /// How much of what is watched was lost.
-    ghost losses: { Self → Losses };
+    /// What it does, and what it says of itself.
+    ghost conduct: { Conduct Self };
 
     /// Does what is due at a tick.
     fn keep_at_tick(&mut self, alloc: Global, gateway: &Gateway)
-        ensures { Ticks self.old gateway.now self.new };
+        ensures { conduct.Ticks self.old gateway.now self.new };
 
     /// Goes on with another gateway, of whose configuration this is made.
     fn adopt(&mut self, alloc: Global, successor: Successor, gateway: &Gateway)
-        ensures { (c : Configuration) → IsSuccessor c successor → Adopts self.old c gateway.now self.new };
+        ensures { (c : Configuration) → IsSuccessor c successor → conduct.Adopts self.old c gateway.now self.new };
 
     /// Does what is due at the end, whatever ended the run.
     fn keep_last(&mut self, alloc: Global, gateway: &Gateway)
-        ensures { Lasts self.old gateway.now self.new };
+        ensures { conduct.Lasts self.old gateway.now self.new };
 
     /// What isn't kept or recorded.
     fn troubles(&self) -> Troubles
-        ensures { result ≡ troubles self.now };
+        ensures { result ≡ conduct.troubles self.now };
 
     /// How many tries failed so far.
     fn unkept(&self) -> u64
-        ensures { result ≡ unkept self.now };
+        ensures { result ≡ conduct.unkept self.now };
 
     /// How the state is kept, if it is.
     fn tries(&self) -> Option<StateTries>
-        ensures { result ≡ tries self.now };
+        ensures { result ≡ conduct.tries self.now };
 
     /// How many asks each rule decided, if that is counted.
     fn decisions(&self) -> &Option<Tally>
-        ensures { result.now ≡ decisions self.now };
+        ensures { result.now ≡ conduct.decisions self.now };
 
     /// How much of what is watched was lost.
     fn losses(&self) -> Losses
-        ensures { result ≡ losses self.now };
+        ensures { result ≡ conduct.losses self.now };
 
     /// Writes more of itself, and how many asks each rule decided if that is asked for.
     fn write_more<E: OctetSink>(
@@ -90,7 +63,7 @@ pub trait StateKeeper: Guard {
         gateway: &Gateway,
         errors: &mut E,
     ) -> Result<(), WriteFailed>
-        ensures ok { OnOk result (Appends (E.held errors.old) (E.held errors.new) (more self.now rules gateway.now)) }
+        ensures ok { OnOk result (Appends (E.held errors.old) (E.held errors.new) (conduct.more self.now rules gateway.now)) }
         ensures sure { E.NeverFails errors.old → IsOk result }
         ensures lasts { E.NeverFails errors.old → E.NeverFails errors.new };
 }

@@ -15,14 +15,14 @@ ghost use Rattle.gw_turns.specs.Stretch.{CanCount};
 ghost use Rattle.gw_turns.specs.Tally.{no_tally};
 ghost use Rattle.gw_service.specs.Fault.{fault_of_opening};
 ghost use Rattle.gw_system.specs.Opening.{IsNote};
-ghost use Rattle.gw_service.specs.Kept.{AreRequestsUnder, IsLastDenial, IsMetricsUnder, IsStateUnder, IsStoreUnder, IsTextBefore, IsTrialNote, IsTrialNoteOf, IsUnprepared, KeepsFirst, LeavesKept, LeavesWithState, given, line_read, names_of, outcome_by, outcome_of_stop, service_by, state_machine, text_before};
+ghost use Rattle.gw_service.specs.Kept.{AreRequestsUnder, IsLastDenial, IsMetricsUnder, IsStateUnder, IsStoreUnder, IsTextBefore, IsTrialNote, IsTrialNoteOf, IsUnprepared, KeepsFirst, LeavesKept, LeavesWithState, given, line_read, names_of, outcome_by, outcome_of_stop, service_by, states_of, text_before};
 ghost use Rattle.gw_notices.specs.Startup.{startup_line};
 ghost use Rattle.gw_notices.specs.Reload.{counts_since};
-ghost use Rattle.gw_service.specs.Serving.{IsFlushedFor, LogStays, ends, log_held, machine};
+ghost use Rattle.gw_service.specs.Serving.{IsFlushedFor, LogStays, ends, log_held, machine_of};
 ghost use Rattle.gw_notices.specs.Notices.{no_troubles};
 ghost use Rattle.gw_service.specs.Start.{BeginsAs};
 ghost use Rattle.gw_service.specs.Watch.{WatchesUnder, watch_names};
-ghost use Rattle.gw_system.specs.Host.{OpensAtLine};
+ghost use Rattle.gw_system.specs.Offers.{OpensLog};
 ghost use Rattle.gw_system.specs.Requests.{text_found};
 
 use crate::edition::Edition;
@@ -78,7 +78,7 @@ fn saved_under<H: Host>(
     name: &Option<String>,
     host: &H,
 ) -> Result<Option<Saved>, ServiceFault>
-    ensures { IsStateUnder (H.FileReads host.now) (option_map string_bytes name.now) result }
+    ensures { IsStateUnder (H.offers host.now).FileReads (option_map string_bytes name.now) result }
 {
     match name {
         Some(name) => {
@@ -95,7 +95,7 @@ fn last_denial<H: Host>(
     options: &RunOptions,
     host: &H,
 ) -> Result<Option<Vec<u8>>, ServiceFault>
-    ensures { IsLastDenial (H.LastDenials host.now) (option_map string_bytes options.now.state)
+    ensures { IsLastDenial (H.offers host.now).LastDenials (option_map string_bytes options.now.state)
         (option_map string_bytes options.now.log) (line_read result) }
 {
     match (&options.state, &options.log) {
@@ -114,7 +114,7 @@ fn store_under<H: Host>(
     name: &Option<String>,
     host: &H,
 ) -> Result<Option<H::StateStore>, ServiceFault>
-    ensures { IsStoreUnder (H.StoreOpens host.now) (option_map string_bytes name.now) result }
+    ensures { IsStoreUnder (H.offers host.now).StoreOpens (option_map string_bytes name.now) result }
 {
     match name {
         Some(name) => match host.open_store(alloc, name, StoreKind::Kept) {
@@ -131,7 +131,7 @@ fn metrics_under<H: Host>(
     name: &Option<String>,
     host: &H,
 ) -> Result<Option<H::StateStore>, ServiceFault>
-    ensures { IsMetricsUnder (H.StoreOpens host.now) (option_map string_bytes name.now) result }
+    ensures { IsMetricsUnder (H.offers host.now).StoreOpens (option_map string_bytes name.now) result }
 {
     match name {
         Some(name) => match host.open_store(alloc, name, StoreKind::Shown) {
@@ -148,7 +148,7 @@ fn requests_under<H: Host>(
     options: &RunOptions,
     host: &H,
 ) -> Result<Option<H::Reloads>, AllocError>
-    ensures { IfOk result (AreRequestsUnder (H.ReloadsOpen host.now) (option_map string_bytes options.now.reload)
+    ensures { IfOk result (AreRequestsUnder (H.offers host.now).ReloadsOpen (option_map string_bytes options.now.reload)
         (string_bytes options.now.config)) }
 {
     match &options.reload {
@@ -202,7 +202,7 @@ fn note_of_trial(
 
 /// What is said of the policy of this file, if there is to be a trial.
 fn trial_note<H: Host>(alloc: Global, config: &Config, name: &Option<String>, host: &H) -> Vec<u8>
-    ensures { IsTrialNote (H.FileReads host.now) (option_map string_bytes name.now) config.now result.items }
+    ensures { IsTrialNote (H.offers host.now).FileReads (option_map string_bytes name.now) config.now result.items }
 {
     match name {
         Some(name) => {
@@ -221,7 +221,7 @@ fn text_of<H: Host>(
     saved: &Option<Saved>,
     host: &H,
 ) -> Result<Vec<u8>, AllocError>
-    ensures { IfOk result (λ text. IsTextBefore (H.FileReads host.now) (option_map string_bytes options.now.state)
+    ensures { IfOk result (λ text. IsTextBefore (H.offers host.now).FileReads (option_map string_bytes options.now.state)
         (option_map string_bytes options.now.trial) options.now.verbose config.now saved.now text.items) }
 {
     let mut text = text_of_state(alloc, options, config, saved)?;
@@ -239,24 +239,23 @@ pub(crate) fn prepare<H: Host>(
     host: &H,
 ) -> Result<Before<H::StateStore, H::Reloads, H::Log>, ServiceFault>
     ensures saved { IfOk result (λ before.
-        IsStateUnder (H.FileReads host.now) (option_map string_bytes options.now.state) (Ok before.saved)) }
-    ensures line { IfOk result (λ before. IsLastDenial (H.LastDenials host.now) (option_map string_bytes options.now.state)
+        IsStateUnder (H.offers host.now).FileReads (option_map string_bytes options.now.state) (Ok before.saved)) }
+    ensures line { IfOk result (λ before. IsLastDenial (H.offers host.now).LastDenials (option_map string_bytes options.now.state)
         (option_map string_bytes options.now.log) (Ok (option_map (λ line. line.items) before.line))) }
-    ensures text { IfOk result (λ before. IsTextBefore (H.FileReads host.now) (option_map string_bytes options.now.state)
+    ensures text { IfOk result (λ before. IsTextBefore (H.offers host.now).FileReads (option_map string_bytes options.now.state)
         (option_map string_bytes options.now.trial) options.now.verbose config.now before.saved before.text.items) }
     ensures store { IfOk result (λ before.
-        IsStoreUnder (H.StoreOpens host.now) (option_map string_bytes options.now.state) (Ok before.store)) }
+        IsStoreUnder (H.offers host.now).StoreOpens (option_map string_bytes options.now.state) (Ok before.store)) }
     ensures metrics { IfOk result (λ before.
-        IsMetricsUnder (H.StoreOpens host.now) (option_map string_bytes options.now.metrics) (Ok before.metrics)) }
-    ensures requests { IfOk result (λ before. AreRequestsUnder (H.ReloadsOpen host.now)
+        IsMetricsUnder (H.offers host.now).StoreOpens (option_map string_bytes options.now.metrics) (Ok before.metrics)) }
+    ensures requests { IfOk result (λ before. AreRequestsUnder (H.offers host.now).ReloadsOpen
         (option_map string_bytes options.now.reload) (string_bytes options.now.config) before.requests) }
-    ensures watcher { let LogOpens = OpensAtLine (H.LogOpens host.now) (H.LogIsCut host.now) H.Log.held in
-        IfOk result (λ before. WatchesUnder (H.FileReads host.now) (H.LastDenials host.now) LogOpens config.now
+    ensures watcher { let offers = H.offers host.now in
+        IfOk result (λ before. WatchesUnder offers.FileReads offers.LastDenials (OpensLog offers H.Log.held) config.now
         (watch_names options.now) before.watcher) }
     ensures checksum { IfOk result (λ before. before.checksum ≡ checksum) }
-    ensures fault { IfErr result (IsUnprepared (state_machine (H.FileReads host.now) (H.LastDenials host.now)
-        (H.StoreOpens host.now) (H.ReloadsOpen host.now) H.StateStore.held H.Reloads.recorded)
-        (OpensAtLine (H.LogOpens host.now) (H.LogIsCut host.now) H.Log.held) (names_of options.now) config.now) }
+    ensures fault { IfErr result (IsUnprepared (states_of (H.offers host.now) H.StateStore.held H.Reloads.recorded)
+        (OpensLog (H.offers host.now) H.Log.held) (names_of options.now) config.now) }
 {
     let saved = match saved_under(alloc, &options.state, host) {
         Ok(saved) => saved,
@@ -531,10 +530,8 @@ pub(crate) fn serve_kept<H: Host, W: Write + Drop, E: OctetSink>(
     errors: &mut E,
 ) -> Result<(), ServiceFault>
     ensures served { (said : List ℕ) × LeavesWithState
-        (machine (OpensAtLine (H.LogOpens host.old) (H.LogIsCut host.old) H.Log.held)
-        (H.SocketsOpen host.old) (H.RoutesIp host.old) (H.Closes host.new) H.Log.held H.Sockets.calls)
-        (state_machine (H.FileReads host.old) (H.LastDenials host.old) (H.StoreOpens host.old) (H.ReloadsOpen host.old)
-        H.StateStore.held H.Reloads.recorded) (names_of order.entry.options.now)
+        (machine_of (H.offers host.old) (H.Closes host.new) H.Log.held H.Sockets.calls)
+        (states_of (H.offers host.old) H.StateStore.held H.Reloads.recorded) (names_of order.entry.options.now)
         (writer_contents W.contents output.old) (writer_contents W.contents output.new) order.entry.edition
         (service_by order.entry.options.now) order.entry.options.now.verbose (startup_line order.entry.options.now.verbose
         order.entry.edition.config (option_map string_bytes order.entry.options.now.log)) said result

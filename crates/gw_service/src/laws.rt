@@ -25,14 +25,14 @@ use gw_wire::Store;
 /// they stay.
 pub fn rules_are_in_force<K: StateKeeper>()
     ensures chain { (start : Counts) (report status : K → ReloadCounts → Announcing → Option ℕ → State → Served → DropTally → List ℕ) →
-        RulesAreInForce (manner K.Passes K.Ticks K.Adopts K.troubles report status (meters_by start) K.Lasts) }
+        RulesAreInForce (manner K.Passes K.conduct.Ticks K.conduct.Adopts K.conduct.troubles report status (meters_by start) K.conduct.Lasts) }
     ensures stretch { RulesStay }
 {}
 
 /// The checksum that metrics show is that of the configuration in force: wherever a run leads, it is the one of a text of that.
 pub fn checksum_is_in_force<K: StateKeeper>()
     ensures { (start : Counts) (report status : K → ReloadCounts → Announcing → Option ℕ → State → Served → DropTally → List ℕ) →
-        ChecksumIsInForce (manner K.Passes K.Ticks K.Adopts K.troubles report status (meters_by start) K.Lasts) }
+        ChecksumIsInForce (manner K.Passes K.conduct.Ticks K.conduct.Adopts K.conduct.troubles report status (meters_by start) K.conduct.Lasts) }
 {}
 
 /// No number of a denial is used twice: a gateway that begins with a state goes on after the number of the denial that its log shows
@@ -57,7 +57,7 @@ pub fn as_plain<S: Store + Drop, Q: Requests + Drop, L: OctetSink + Drop>()
 /// If no request file is named, nobody asks: no look finds a request, and the configuration in force stays to the end.
 pub fn nobody_asks<K: StateKeeper>()
     ensures { (start : Counts) (report status : K → ReloadCounts → Announcing → Option ℕ → State → Served → DropTally → List ℕ) →
-        NobodyAsks (manner K.Passes K.Ticks K.Adopts K.troubles report status (meters_by start) K.Lasts) }
+        NobodyAsks (manner K.Passes K.conduct.Ticks K.conduct.Adopts K.conduct.troubles report status (meters_by start) K.conduct.Lasts) }
 {}
 
 /// A run that neither keeps a state nor looks for requests, of a configuration that announces nothing, is one of [`serve`](gw_turns::serve) but for what it reports: the log, the calls of the wire and the outcome are those of serving from the gateway's first state.
@@ -70,13 +70,13 @@ pub fn as_served<S: Store + Drop, Q: Requests + Drop, L: OctetSink + Drop>()
 pub fn holding<K: StateKeeper>()
     ensures most { MOST_WAITING ≡ 8388608 }
     ensures step_first { (how : Reporting) → StepsLogFirst
-        (holding_manner K.Passes K.Ticks K.Adopts K.troubles K.unkept K.more how K.Lasts) }
+        (holding_manner K.Passes K.conduct how) }
     ensures step_whole { (how : Reporting) → StepsLoseNothing
-        (holding_manner K.Passes K.Ticks K.Adopts K.troubles K.unkept K.more how K.Lasts) }
+        (holding_manner K.Passes K.conduct how) }
     ensures first { (how : Reporting) → ChainsLogFirst
-        (holding_manner K.Passes K.Ticks K.Adopts K.troubles K.unkept K.more how K.Lasts) }
+        (holding_manner K.Passes K.conduct how) }
     ensures whole { (how : Reporting) → ChainsLoseNothing
-        (holding_manner K.Passes K.Ticks K.Adopts K.troubles K.unkept K.more how K.Lasts) }
+        (holding_manner K.Passes K.conduct how) }
 {}
 
 /// What a watcher's logs and counts are after a run, if nothing was lost and all events were seen: the logs have exactly their lines,

@@ -142,7 +142,7 @@ pub(crate) fn put_last<K: StateKeeper, S: Store + Drop>(
     gateway: &Gateway,
     keeper: &K,
 )
-    ensures { PutsLast S.held metrics.old measured.now gateway.now (K.decisions keeper.now) metrics.new }
+    ensures { PutsLast S.held metrics.old measured.now gateway.now (K.conduct.decisions keeper.now) metrics.new }
 {
     if let Some(metrics) = metrics {
         if let Some(measures) = measured {
@@ -163,7 +163,7 @@ pub(crate) fn put_due<K: StateKeeper, S: Store + Drop>(
     gateway: &Gateway,
     keeper: &K,
 )
-    ensures { PutsDue S.held metrics.old measured.now gateway.now (K.decisions keeper.now) metrics.new }
+    ensures { PutsDue S.held metrics.old measured.now gateway.now (K.conduct.decisions keeper.now) metrics.new }
 {
     if let Some(metrics) = metrics {
         if let Some(measures) = measured {

@@ -9,16 +9,17 @@ ghost use Rattle.gw_state.specs.Saved.{origin_of};
 ghost use Rattle.gw_turns.specs.Serve.{scene};
 ghost use Rattle.gw_turns.specs.Stretch.{CanCount, moment};
 ghost use Rattle.gw_system.specs.Requests.{Asking, GoesOn, IsAsking, answered, asked, text_found};
-ghost use Rattle.gw_service.specs.Chain.{Advances, AtTick, FailsToLast, IsLooked, IsNotedWith, Link, Looks, Runs, WasLasting, chain_text, edge, end_of, manner, stage, standing};
+ghost use Rattle.gw_service.specs.Chain.{Advances, AtTick, FailsToLast, IsLooked, IsNotedWith, Link, Looks, Runs, WasLasting, chain_text, edge, end_of, stage, standing};
 ghost use Rattle.gw_notices.specs.Notices.{no_troubles, notice_of, stop_line};
 ghost use Rattle.gw_notices.specs.Reload.{refusal_line};
-ghost use Rattle.gw_service.specs.Holding.{holding_of};
+ghost use Rattle.gw_service.specs.Holding.{holding_of, stage_of};
 ghost use Rattle.gw_service.specs.Kept.{EndsRun, RunsFrom, is_stopped, rest, status_or};
-ghost use Rattle.gw_service.specs.Metering.{MetersLast, lost_by, metered, meters_by, seconds_of};
+ghost use Rattle.gw_service.specs.Metering.{MetersLast, lost_by, metered, seconds_of};
 ghost use Rattle.gw_service.specs.Serving.{ends};
 ghost use Rattle.gw_wire.specs.Wire.{Call};
 ghost use Rattle.gw_service.specs.Scheduled.{reporting_by};
-ghost use Rattle.gw_service.specs.Stats.{all_stats, due_stats, end_stats};
+ghost use Rattle.gw_service.specs.Conduct.{manner_by};
+ghost use Rattle.gw_service.specs.Stats.{all_stats, end_stats};
 
 use crate::holding::Holding;
 use crate::holding_run::HoldingRun;
@@ -138,7 +139,7 @@ impl<K: StateKeeper, Q: Requests, M: Store + Drop> Running<K, Q, M> {
         requires { IsAsking (Q.recorded self.old.requests) }
         ensures looked { (first : Asking) (report : List ℕ) →
             GoesOn first (Q.recorded self.old.requests) (asked (text_found read.now) ∷ []) →
-            Looks (IsLooked K.Adopts) (IsNotedWith L.Takes log.old log.new false report) self.old.origin
+            Looks (IsLooked K.conduct.Adopts) (IsNotedWith L.Takes log.old log.new false report) self.old.origin
             (standing self.old.gateway self.old.keeper first self.old.counts self.old.announcing)
             self.new.origin (standing self.new.gateway self.new.keeper (Q.recorded self.new.requests) self.new.counts self.new.announcing)
             (E.NeverFails errors.old) (E.held errors.old) (E.held errors.new) }
@@ -189,9 +190,9 @@ impl<K: StateKeeper, Q: Requests, M: Store + Drop> Running<K, Q, M> {
         log: &mut L,
         errors: &mut E,
     ) -> bool
-        ensures looked { let report = all_stats K.unkept K.more (reporting_by schedule.now) self.new.keeper self.new.counts
+        ensures looked { let report = all_stats K.conduct.unkept K.conduct.more (reporting_by schedule.now) self.new.keeper self.new.counts
             self.new.announcing (lost_by (metered self.new.metrics)) self.new.gateway self.new.state.served self.new.state.tally in
-            Looks (IsLooked K.Adopts) (IsNotedWith L.Takes log.old log.new result report) self.old.origin
+            Looks (IsLooked K.conduct.Adopts) (IsNotedWith L.Takes log.old log.new result report) self.old.origin
             (standing self.old.gateway self.old.keeper (Q.recorded self.old.requests) self.old.counts self.old.announcing)
             self.new.origin (standing self.new.gateway self.new.keeper (Q.recorded self.new.requests) self.new.counts self.new.announcing)
             (E.NeverFails errors.old) (E.held errors.old) (E.held errors.new) }
@@ -223,7 +224,7 @@ impl<K: StateKeeper, Q: Requests, M: Store + Drop> Running<K, Q, M> {
 
     /// Reports what isn't kept or recorded, if that changed since the last report; and returns it.
     pub(crate) fn notice<E: OctetSink>(&self, errors: &mut E) -> Troubles
-        ensures troubles { result ≡ K.troubles self.now.keeper }
+        ensures troubles { result ≡ K.conduct.troubles self.now.keeper }
         ensures text { E.NeverFails errors.old →
             Appends (E.held errors.old) (E.held errors.new) (notice_of self.now.said result) }
         ensures lasts { E.NeverFails errors.old → E.NeverFails errors.new }
@@ -240,9 +241,9 @@ impl<K: StateKeeper, Q: Requests, M: Store + Drop> Running<K, Q, M> {
         log: &mut L,
         errors: &mut E,
     ) -> bool
-        ensures done { let report = all_stats K.unkept K.more (reporting_by schedule.now) self.new.keeper self.new.counts
+        ensures done { let report = all_stats K.conduct.unkept K.conduct.more (reporting_by schedule.now) self.new.keeper self.new.counts
             self.new.announcing (lost_by (metered self.new.metrics)) self.new.gateway self.new.state.served self.new.state.tally in
-            Looks (AtTick K.Ticks K.Adopts) (IsNotedWith L.Takes log.old log.new result report) self.old.origin
+            Looks (AtTick K.conduct.Ticks K.conduct.Adopts) (IsNotedWith L.Takes log.old log.new result report) self.old.origin
             (standing self.old.gateway self.old.keeper (Q.recorded self.old.requests) self.old.counts self.old.announcing)
             self.new.origin (standing self.new.gateway self.new.keeper (Q.recorded self.new.requests) self.new.counts self.new.announcing)
             (E.NeverFails errors.old) (E.held errors.old) (E.held errors.new) }
@@ -269,14 +270,10 @@ impl<K: StateKeeper, Q: Requests, M: Store + Drop> Running<K, Q, M> {
     ) -> Result<Option<RunEnd>, ServeFault>
         requires count { CanCount self.old.state.served self.old.state.tally (W.failure_count wire.old) self.old.state.left }
         ensures advances { (c : Configuration) → self.old.origin ≡ origin_of c →
-            let before = stage c (moment (scene self.old.gateway (L.held log.old) (W.calls wire.old)) self.old.keeper
-            self.old.state.served self.old.state.tally) (Q.recorded self.old.requests) self.old.counts self.old.announcing self.old.said (metered self.old.metrics) in
+            let before = stage_of Q.recorded c self.old (L.held log.old) (W.calls wire.old) in
             (d : Configuration) × (text : List ℕ) × (self.new.origin ≡ origin_of d)
-            × Advances (manner K.Passes K.Ticks K.Adopts K.troubles
-            (due_stats K.unkept K.more (reporting_by schedule.now)) (all_stats K.unkept K.more (reporting_by schedule.now))
-            (meters_by schedule.now.start) K.Lasts) self.old.state.left before result text
-            (stage d (moment (scene self.new.gateway (L.held log.new) (W.calls wire.new)) self.new.keeper
-            self.new.state.served self.new.state.tally) (Q.recorded self.new.requests) self.new.counts self.new.announcing self.new.said (metered self.new.metrics))
+            × Advances (manner_by K.Passes K.conduct (reporting_by schedule.now)) self.old.state.left before result text
+            (stage_of Q.recorded d self.new (L.held log.new) (W.calls wire.new))
             (edge (W.behind wire.new) (WasLasting L.IsLasting L.held log.new) (FailsToLast L.Syncs log.new)
             self.new.state.unwritten.items)
             × (E.NeverFails errors.old → Appends (E.held errors.old) (E.held errors.new) text) }
@@ -341,14 +338,10 @@ impl<K: StateKeeper, Q: Requests, M: Store + Drop> Running<K, Q, M> {
     ) -> Result<RunEnd, ServeFault>
         requires count { CanCount self.old.state.served self.old.state.tally (W.failure_count wire.old) self.old.state.left }
         ensures runs { (c : Configuration) → self.old.origin ≡ origin_of c →
-            let before = stage c (moment (scene self.old.gateway (L.held log.old) (W.calls wire.old)) self.old.keeper
-            self.old.state.served self.old.state.tally) (Q.recorded self.old.requests) self.old.counts self.old.announcing self.old.said (metered self.old.metrics) in
+            let before = stage_of Q.recorded c self.old (L.held log.old) (W.calls wire.old) in
             (d : Configuration) × (links : List Link) × (self.new.origin ≡ origin_of d)
-            × Runs (manner K.Passes K.Ticks K.Adopts K.troubles
-            (due_stats K.unkept K.more (reporting_by schedule.now)) (all_stats K.unkept K.more (reporting_by schedule.now))
-            (meters_by schedule.now.start) K.Lasts) self.old.state.left before result links
-            (stage d (moment (scene self.new.gateway (L.held log.new) (W.calls wire.new)) self.new.keeper
-            self.new.state.served self.new.state.tally) (Q.recorded self.new.requests) self.new.counts self.new.announcing self.new.said (metered self.new.metrics))
+            × Runs (manner_by K.Passes K.conduct (reporting_by schedule.now)) self.old.state.left before result links
+            (stage_of Q.recorded d self.new (L.held log.new) (W.calls wire.new))
             × (E.NeverFails errors.old → Appends (E.held errors.old) (E.held errors.new) (chain_text links)) }
         ensures asking { is_stopped result ≡ true → IsAsking (Q.recorded self.new.requests) }
         ensures lasts { E.NeverFails errors.old → E.NeverFails errors.new }
@@ -369,7 +362,7 @@ impl<K: StateKeeper, Q: Requests, M: Store + Drop> Running<K, Q, M> {
     /// Reports at the end what was done, if the schedule asks for that.
     fn report_end<E: OctetSink>(&self, schedule: &Schedule, errors: &mut E)
         ensures said { E.NeverFails errors.old → Appends (E.held errors.old) (E.held errors.new)
-            (end_stats K.unkept K.more (reporting_by schedule.now) self.now.keeper self.now.counts self.now.announcing
+            (end_stats K.conduct.unkept K.conduct.more (reporting_by schedule.now) self.now.keeper self.now.counts self.now.announcing
             (lost_by (metered self.now.metrics)) self.now.gateway self.now.state.served self.now.state.tally) }
         ensures lasts { E.NeverFails errors.old → E.NeverFails errors.new }
     {
@@ -384,11 +377,11 @@ impl<K: StateKeeper, Q: Requests, M: Store + Drop> Running<K, Q, M> {
         ensures put { MetersLast (metered self.old.metrics) (seconds_of schedule.now.start self.old.gateway self.old.state.served
             self.old.state.tally) (metered self.new.metrics) }
         ensures answers { GoesOn (Q.recorded self.old.requests) (Q.recorded self.new.requests)
-            (answered (stop_line (K.troubles self.old.keeper).state) ∷ []) }
+            (answered (stop_line (K.conduct.troubles self.old.keeper).state) ∷ []) }
         ensures said { E.NeverFails errors.old → Appends (E.held errors.old) (E.held errors.new)
-            (end_stats K.unkept K.more (reporting_by schedule.now) self.old.keeper self.old.counts self.old.announcing
+            (end_stats K.conduct.unkept K.conduct.more (reporting_by schedule.now) self.old.keeper self.old.counts self.old.announcing
             (lost_by (metered self.new.metrics)) self.old.gateway self.old.state.served self.old.state.tally
-            ++ stop_line (K.troubles self.old.keeper).state) }
+            ++ stop_line (K.conduct.troubles self.old.keeper).state) }
         ensures lasts { E.NeverFails errors.old → E.NeverFails errors.new }
     {
         let measured = schedule.measure(self);
@@ -418,8 +411,7 @@ impl<K: StateKeeper, Q: Requests, M: Store + Drop> Running<K, Q, M> {
             let last = stage c (moment (scene self.old.gateway log calls) self.old.keeper self.old.state.served self.old.state.tally)
             (Q.recorded self.old.requests) self.old.counts self.old.announcing self.old.said (metered self.old.metrics) in
             let how = reporting_by schedule.now in
-            (text : List ℕ) × EndsRun (manner K.Passes K.Ticks K.Adopts K.troubles (due_stats K.unkept K.more how)
-            (all_stats K.unkept K.more how) (meters_by how.start) K.Lasts) (end_stats K.unkept K.more how) how.start answer last (rest self.new.keeper (Q.recorded self.new.requests)) text
+            (text : List ℕ) × EndsRun (manner_by K.Passes K.conduct how) (end_stats K.conduct.unkept K.conduct.more how) how.start answer last (rest self.new.keeper (Q.recorded self.new.requests)) text
             × (E.NeverFails errors.old → Appends (E.held errors.old) (E.held errors.new) text) }
         ensures lasts { E.NeverFails errors.old → E.NeverFails errors.new }
     {
@@ -450,12 +442,11 @@ impl<K: StateKeeper, Q: Requests, M: Store + Drop> Running<K, Q, M> {
         requires untold { self.old.said ≡ no_troubles }
         ensures runs { (c : Configuration) → self.old.origin ≡ origin_of c →
             let before = stage c (moment (scene self.old.gateway (L.held log.old) (W.calls wire.old)) self.old.keeper
-            self.old.state.served self.old.state.tally) (Q.recorded self.old.requests) self.old.counts self.old.announcing (K.troubles self.old.keeper) (metered self.old.metrics) in
+            self.old.state.served self.old.state.tally) (Q.recorded self.old.requests) self.old.counts self.old.announcing (K.conduct.troubles self.old.keeper) (metered self.old.metrics) in
             let how = reporting_by schedule.now in
             let after = ends (L.held log.new) (W.calls wire.new) in
-            (text : List ℕ) × RunsFrom (manner K.Passes K.Ticks K.Adopts K.troubles (due_stats K.unkept K.more how)
-            (all_stats K.unkept K.more how) (meters_by how.start) K.Lasts)
-            (end_stats K.unkept K.more how) how.start self.old.state.left before result after (rest self.new.keeper (Q.recorded self.new.requests)) text
+            (text : List ℕ) × RunsFrom (manner_by K.Passes K.conduct how)
+            (end_stats K.conduct.unkept K.conduct.more how) how.start self.old.state.left before result after (rest self.new.keeper (Q.recorded self.new.requests)) text
             × (E.NeverFails errors.old → Appends (E.held errors.old) (E.held errors.new) text) }
         ensures lasts { E.NeverFails errors.old → E.NeverFails errors.new }
     {

@@ -4,12 +4,12 @@ ghost use Rattle.std.specs.Prelude.{◌≡◌, ◌⊎◌, [], ℕ, List, None, M
 ghost use Rattle.std.specs.Io.Buffered.{writer_buffer, writer_contents};
 ghost use Rattle.std.specs.Io.KnownBytes.{Appends};
 ghost use Rattle.gw_notices.specs.Startup.{startup_line};
-ghost use Rattle.gw_system.specs.Host.{OpensAtLine};
+ghost use Rattle.gw_system.specs.Offers.{OpensLog};
 ghost use Rattle.gw_system.specs.declared.opening.LogFailure.TheVariants as log_failure;
-ghost use Rattle.gw_service.specs.Kept.{IsWaiting, LeavesService, state_machine, waiting_note, whole_machine};
+ghost use Rattle.gw_service.specs.Kept.{IsWaiting, LeavesService, waiting_note, whole_of};
 ghost use Rattle.std.specs.List.{list_any};
 ghost use Rattle.gw_service.specs.Watch.{is_unaudited, unaudited_note};
-ghost use Rattle.gw_service.specs.Serving.{IsFlushedFor, LogIsOpen, LogIsShut, machine};
+ghost use Rattle.gw_service.specs.Serving.{IsFlushedFor, LogIsOpen, LogIsShut};
 
 use crate::fault::ServiceFault;
 use crate::kept::serve_kept;
@@ -31,7 +31,7 @@ fn open_log<H: Host, W: Write + Drop>(
     ensures log { let name = option_map string_bytes log.now in
         let held = writer_contents W.contents output.old in
         let holds = writer_contents W.contents output.new in
-        let LogOpens = OpensAtLine (H.LogOpens host.now) (H.LogIsCut host.now) H.Log.held in
+        let LogOpens = OpensLog (H.offers host.now) H.Log.held in
         MatchResult result (LogIsOpen LogOpens name held holds) (LogIsShut LogOpens name held holds) }
     ensures unbuffered { IfOk result (λ opened. opened ≡ None → writer_buffer output.new ≡ []) }
     ensures buffer { OnOk result (IsFlushedFor (option_map string_bytes log.now)
@@ -68,7 +68,7 @@ pub(crate) fn open<H: Host, W: Write + Drop>(
     ensures open { let name = option_map string_bytes options.now.log in
         let held = writer_contents W.contents output.old in
         let holds = writer_contents W.contents output.new in
-        let LogOpens = OpensAtLine (H.LogOpens host.now) (H.LogIsCut host.now) H.Log.held in
+        let LogOpens = OpensLog (H.offers host.now) H.Log.held in
         MatchResult result
         (λ opening. LogIsOpen LogOpens name held holds opening.log)
         (λ f. ((f ≡ log_failure.Memory) × (holds ≡ held)) ⊎ LogIsShut LogOpens name held holds f) }
@@ -110,7 +110,7 @@ fn unaudited_note(config: &Config, options: &RunOptions) -> &'static str
 
 /// Whether opening the log may wait for its reader.
 fn is_waiting<H: Host>(log: &Option<String>, host: &H) -> bool
-    ensures { IsWaiting (H.Waits host.now) (option_map string_bytes log.now) result }
+    ensures { IsWaiting (H.offers host.now).Waits (option_map string_bytes log.now) result }
 {
     match log {
         Some(name) => host.waits(name),
@@ -147,10 +147,8 @@ pub fn serve_ports<H: Host, W: Write + Drop, E: OctetSink>(
     errors: &mut E,
 ) -> Result<(), ServiceFault>
     ensures served { (said : List ℕ)
-        × LeavesService (whole_machine (machine (OpensAtLine (H.LogOpens host.old) (H.LogIsCut host.old) H.Log.held)
-        (H.SocketsOpen host.old) (H.RoutesIp host.old) (H.Closes host.new) H.Log.held H.Sockets.calls)
-        (state_machine (H.FileReads host.old) (H.LastDenials host.old) (H.StoreOpens host.old)
-        (H.ReloadsOpen host.old) H.StateStore.held H.Reloads.recorded) (H.Waits host.old)) order.entry.options.now
+        × LeavesService (whole_of (H.offers host.old) (H.Closes host.new) H.Log.held H.Sockets.calls H.StateStore.held H.Reloads.recorded)
+        order.entry.options.now
         (writer_contents W.contents output.old) (writer_contents W.contents output.new) order.entry.edition said result
         × (E.NeverFails errors.old → Appends (E.held errors.old) (E.held errors.new) said) }
     ensures lasting { E.NeverFails errors.old → E.NeverFails errors.new }

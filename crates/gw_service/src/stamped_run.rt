@@ -5,10 +5,9 @@ ghost use Rattle.std.specs.Io.Buffered.{writer_buffer, writer_contents};
 ghost use Rattle.std.specs.Io.KnownBytes.{Appends};
 ghost use Rattle.gw_log_words.specs.declared.noted.Noted.{Noted};
 ghost use Rattle.gw_log_words.specs.declared.stamped.Stamped.{Stamped};
-ghost use Rattle.gw_system.specs.Host.{OpensAtLine};
 ghost use Rattle.gw_system.specs.StampedHost.{log_if};
-ghost use Rattle.gw_service.specs.Kept.{LeavesService, state_machine, whole_machine};
-ghost use Rattle.gw_service.specs.Serving.{IsFlushedFor, machine};
+ghost use Rattle.gw_service.specs.Kept.{LeavesService, whole_of};
+ghost use Rattle.gw_service.specs.Serving.{IsFlushedFor};
 ghost use Rattle.gw_service.specs.StampedRun.{EndsIn, IsEndedIn, LeavesTimed, timed_machine, whole_with_stamps};
 
 use crate::fault::ServiceFault;
@@ -73,11 +72,8 @@ fn serve_stamped<H: Host, W: Write + Drop, E: OctetSink>(
 ) -> Result<(), ServiceFault>
     ensures served { (said : List ℕ)
         × LeavesService (whole_with_stamps {C = H.Calendar}
-        (whole_machine (machine (OpensAtLine (H.LogOpens host.old) (H.LogIsCut host.old) H.Log.held)
-        (H.SocketsOpen host.old) (H.RoutesIp host.old) (H.Closes host.new) H.Log.held H.Sockets.calls)
-        (state_machine (H.FileReads host.old) (H.LastDenials host.old) (H.StoreOpens host.old)
-        (H.ReloadsOpen host.old) H.StateStore.held H.Reloads.recorded) (H.Waits host.old))) order.entry.options.now
-        (writer_contents W.contents output.old) (writer_contents W.contents output.new) order.entry.edition said result
+        (whole_of (H.offers host.old) (H.Closes host.new) H.Log.held H.Sockets.calls H.StateStore.held H.Reloads.recorded))
+        order.entry.options.now (writer_contents W.contents output.old) (writer_contents W.contents output.new) order.entry.edition said result
         × (E.NeverFails errors.old → Appends (E.held errors.old) (E.held errors.new) said) }
     ensures lasting { E.NeverFails errors.old → E.NeverFails errors.new }
     ensures flush { OnOk result (IsFlushedFor (option_map string_bytes order.entry.options.now.log)
@@ -106,11 +102,8 @@ pub fn serve_run<H: Host, W: Write + Drop, E: OctetSink>(
 ) -> Result<(), ServiceFault>
     ensures served { (said : List ℕ)
         × LeavesTimed (timed_machine {C = H.Calendar}
-        (whole_machine (machine (OpensAtLine (H.LogOpens host.old) (H.LogIsCut host.old) H.Log.held)
-        (H.SocketsOpen host.old) (H.RoutesIp host.old) (H.Closes host.new) H.Log.held H.Sockets.calls)
-        (state_machine (H.FileReads host.old) (H.LastDenials host.old) (H.StoreOpens host.old)
-        (H.ReloadsOpen host.old) H.StateStore.held H.Reloads.recorded) (H.Waits host.old))) order.entry.options.now
-        (writer_contents W.contents output.old) (writer_contents W.contents output.new) order.entry.edition said result
+        (whole_of (H.offers host.old) (H.Closes host.new) H.Log.held H.Sockets.calls H.StateStore.held H.Reloads.recorded))
+        order.entry.options.now (writer_contents W.contents output.old) (writer_contents W.contents output.new) order.entry.edition said result
         × (E.NeverFails errors.old → Appends (E.held errors.old) (E.held errors.new) said) }
     ensures lasting { E.NeverFails errors.old → E.NeverFails errors.new }
     ensures flush { OnOk result (IsFlushedFor (option_map string_bytes order.entry.options.now.log)

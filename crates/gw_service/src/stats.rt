@@ -119,7 +119,7 @@ impl Schedule {
     ) -> Result<(), WriteFailed>
         ensures ok { let how = reporting self.now.seconds self.now.rules self.now.start self.now.keeps self.now.reloads self.now.verbose in
             OnOk result (Appends (E.held errors.old) (E.held errors.new)
-            (tries_text K.unkept K.more how running.now.keeper running.now.counts running.now.announcing
+            (tries_text K.conduct.unkept K.conduct.more how running.now.keeper running.now.counts running.now.announcing
             (lost_by (metered running.now.metrics)) running.now.gateway)) }
         ensures sure { E.NeverFails errors.old → IsOk result }
         ensures lasts { E.NeverFails errors.old → E.NeverFails errors.new }
@@ -143,7 +143,7 @@ impl Schedule {
         ensures ok { let how = reporting self.now.seconds self.now.rules self.now.start self.now.keeps self.now.reloads self.now.verbose in
             OnOk result (Appends (E.held errors.old) (E.held errors.new)
             (stats_text how running.now.gateway running.now.state.served running.now.state.tally
-            (tries_text K.unkept K.more how running.now.keeper running.now.counts running.now.announcing
+            (tries_text K.conduct.unkept K.conduct.more how running.now.keeper running.now.counts running.now.announcing
             (lost_by (metered running.now.metrics)) running.now.gateway))) }
         ensures sure { E.NeverFails errors.old → IsOk result }
         ensures lasts { E.NeverFails errors.old → E.NeverFails errors.new }
@@ -166,7 +166,7 @@ impl Schedule {
         running: &Running<K, Q, M>,
     ) -> Result<Vec<u8>, WriteFailed>
         ensures { let how = reporting self.now.seconds self.now.rules self.now.start self.now.keeps self.now.reloads self.now.verbose in
-            IfOk result (λ text. text.items ≡ all_stats K.unkept K.more how running.now.keeper running.now.counts
+            IfOk result (λ text. text.items ≡ all_stats K.conduct.unkept K.conduct.more how running.now.keeper running.now.counts
             running.now.announcing (lost_by (metered running.now.metrics)) running.now.gateway running.now.state.served running.now.state.tally) }
     {
         let mut text = Vec::new(running.state.alloc);
@@ -180,7 +180,7 @@ impl Schedule {
         running: &Running<K, Q, M>,
     ) -> Option<Measures>
         ensures { result ≡ measures_of self.now.start running.now.gateway running.now.state.served running.now.state.tally
-            running.now.counts running.now.announcing (K.losses running.now.keeper) (K.tries running.now.keeper) }
+            running.now.counts running.now.announcing (K.conduct.losses running.now.keeper) (K.conduct.tries running.now.keeper) }
     {
         let gateway = &running.gateway;
         let state = &running.state;
@@ -219,7 +219,7 @@ impl Schedule {
     )
         ensures said { let how = reporting self.now.seconds self.now.rules self.now.start self.now.keeps self.now.reloads self.now.verbose in
             E.NeverFails errors.old → Appends (E.held errors.old) (E.held errors.new)
-            (due_stats K.unkept K.more how running.now.keeper running.now.counts running.now.announcing
+            (due_stats K.conduct.unkept K.conduct.more how running.now.keeper running.now.counts running.now.announcing
             (lost_by (metered running.now.metrics)) running.now.gateway running.now.state.served running.now.state.tally) }
         ensures lasts { E.NeverFails errors.old → E.NeverFails errors.new }
     {
@@ -244,7 +244,7 @@ impl Schedule {
     )
         ensures said { let how = reporting self.now.seconds self.now.rules self.now.start self.now.keeps self.now.reloads self.now.verbose in
             E.NeverFails errors.old → Appends (E.held errors.old) (E.held errors.new)
-            (end_stats K.unkept K.more how running.now.keeper running.now.counts running.now.announcing
+            (end_stats K.conduct.unkept K.conduct.more how running.now.keeper running.now.counts running.now.announcing
             (lost_by (metered running.now.metrics)) running.now.gateway running.now.state.served running.now.state.tally) }
         ensures lasts { E.NeverFails errors.old → E.NeverFails errors.new }
     {

@@ -1,7 +1,7 @@
 //! What watches a gateway, as the options ask.
 
 ghost use Rattle.std.specs.Prelude.{◌≡◌, ◌||◌, Ok, is_some, option_map, string_bytes, IfErr, IfOk};
-ghost use Rattle.gw_system.specs.Host.{OpensAtLine};
+ghost use Rattle.gw_system.specs.Offers.{OpensLog};
 ghost use Rattle.gw_service.specs.Watch.{AreCountsOf, AreCountsUnder, IsAuditUnder, IsTrialUnder, IsUnwatched, WatchesUnder, fault_of_watching, watch_names};
 
 use crate::fault::ServiceFault;
@@ -26,8 +26,8 @@ fn trial_under<H: Host>(
     options: &RunOptions,
     host: &H,
 ) -> Result<Option<Beside<Trial, H::Log>>, ServiceFault>
-    ensures { let LogOpens = OpensAtLine (H.LogOpens host.now) (H.LogIsCut host.now) H.Log.held in
-        IsTrialUnder (H.FileReads host.now) (H.LastDenials host.now) LogOpens config.now (watch_names options.now) result }
+    ensures { let offers = H.offers host.now in
+        IsTrialUnder offers.FileReads offers.LastDenials (OpensLog offers H.Log.held) config.now (watch_names options.now) result }
 {
     match (&options.trial, &options.trial_log) {
         (Some(rules), Some(log)) => {
@@ -52,8 +52,8 @@ fn audit_under<H: Host>(
     options: &RunOptions,
     host: &H,
 ) -> Result<Option<Beside<Marks, H::Log>>, ServiceFault>
-    ensures { let LogOpens = OpensAtLine (H.LogOpens host.now) (H.LogIsCut host.now) H.Log.held in
-        IsAuditUnder (H.LastDenials host.now) LogOpens config.now (watch_names options.now) result }
+    ensures { let offers = H.offers host.now in
+        IsAuditUnder offers.LastDenials (OpensLog offers H.Log.held) config.now (watch_names options.now) result }
 {
     match &options.audit {
         Some(name) => match open_audit(alloc, config, name, host) {
@@ -93,10 +93,10 @@ pub(crate) fn watcher_under<H: Host>(
     options: &RunOptions,
     host: &H,
 ) -> Result<Watcher<H::Log, H::Log>, ServiceFault>
-    ensures watcher { let LogOpens = OpensAtLine (H.LogOpens host.now) (H.LogIsCut host.now) H.Log.held in
-        IfOk result (WatchesUnder (H.FileReads host.now) (H.LastDenials host.now) LogOpens config.now (watch_names options.now)) }
-    ensures fault { let LogOpens = OpensAtLine (H.LogOpens host.now) (H.LogIsCut host.now) H.Log.held in
-        IfErr result (IsUnwatched (H.FileReads host.now) (H.LastDenials host.now) LogOpens config.now (watch_names options.now)) }
+    ensures watcher { let offers = H.offers host.now in
+        IfOk result (WatchesUnder offers.FileReads offers.LastDenials (OpensLog offers H.Log.held) config.now (watch_names options.now)) }
+    ensures fault { let offers = H.offers host.now in
+        IfErr result (IsUnwatched offers.FileReads offers.LastDenials (OpensLog offers H.Log.held) config.now (watch_names options.now)) }
 {
     let Ok(counts) = counts_under(alloc, config, options) else {
         return Err(ServiceFault::Memory);

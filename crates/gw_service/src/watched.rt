@@ -3,8 +3,7 @@
 ghost use Rattle.std.specs.Prelude.{◌≡◌, if◌then◌else◌, [], IsOk, OnOk};
 ghost use Rattle.std.specs.Io.KnownBytes.{Appends};
 ghost use Rattle.gw_notices.specs.Watch.{counts_text};
-ghost use Rattle.gw_service.specs.Watch.{BeginAnew, IsKeptAtTickBeside, IsKeptForBeside, IsKeptLastBeside, counted_of, has_lost, has_watched, log_count, losses_of, lost_of, more_of, troubles_of, watcher_text};
-ghost use Rattle.gw_service.specs.Keeping.{tries_in, unkept_in};
+ghost use Rattle.gw_service.specs.Watch.{BeginAnew, conduct_beside, counted_of, has_lost, has_watched, log_count, lost_of, watcher_text};
 
 use crate::keeping::{Kept, StateKeeper};
 use crate::successor::Successor;
@@ -115,23 +114,7 @@ fn begun_anew(so_far: &Option<Tally>, counts: Tally) -> Option<Tally>
 
 impl<S: Store + Drop, T: OctetSink + Drop, A: OctetSink + Drop> StateKeeper
     for BothGuards<Watcher<T, A>, Kept<S>> {
-    ghost Ticks = { IsKeptAtTickBeside S.held };
-
-    ghost Adopts = { IsKeptForBeside S.held };
-
-    ghost Lasts = { IsKeptLastBeside S.held };
-
-    ghost troubles = { troubles_of };
-
-    ghost unkept = { λ both. unkept_in both.second };
-
-    ghost more = { more_of };
-
-    ghost tries = { λ both. tries_in both.second };
-
-    ghost decisions = { λ both. both.first.counts };
-
-    ghost losses = { losses_of };
+    ghost conduct = { conduct_beside S.held };
 
     fn keep_at_tick(&mut self, alloc: Global, gateway: &Gateway) {
         self.second.keep_at_tick(alloc, gateway);

@@ -6,10 +6,9 @@ ghost use Rattle.std.specs.Io.KnownBytes.{Appends};
 ghost use Rattle.std.specs.Process.{exit_status};
 ghost use Rattle.gw_ending.specs.reading.Files.{result_map};
 ghost use Rattle.gw_shell.specs.Serving.{IsEditionOf, LeavesRun, served};
-ghost use Rattle.gw_system.specs.Host.{OpensAtLine};
 ghost use Rattle.gw_shell.specs.Program.{IsChoiceOf, IsFlushed, IsFollowed, IsRun, LeavesConfigured, LeavesOfText, LeavesOutput};
-ghost use Rattle.gw_service.specs.Kept.{state_machine, whole_machine};
-ghost use Rattle.gw_service.specs.Serving.{IsFlushedFor, machine};
+ghost use Rattle.gw_service.specs.Kept.{whole_of};
+ghost use Rattle.gw_service.specs.Serving.{IsFlushedFor};
 ghost use Rattle.gw_service.specs.StampedRun.{timed_machine};
 ghost use Rattle.gw_service.specs.declared.edition.Edition.{Edition as SpecEdition};
 ghost use Rattle.gw_ending.specs.declared.fault.Fault.{Fault};
@@ -121,10 +120,7 @@ fn serve<H: Host, R, W: Write + Drop, E: OctetSink>(
         (said : List ℕ) × (edition : Result SpecEdition Fault)
         × IsEditionOf (result_map (λ octets. octets.items) text.now) edition
         × LeavesRun (timed_machine {C = H.Calendar}
-        (whole_machine (machine (OpensAtLine (H.LogOpens host.old) (H.LogIsCut host.old) H.Log.held)
-        (H.SocketsOpen host.old) (H.RoutesIp host.old) (H.Closes host.new) H.Log.held H.Sockets.calls)
-        (state_machine (H.FileReads host.old) (H.LastDenials host.old) (H.StoreOpens host.old)
-        (H.ReloadsOpen host.old) H.StateStore.held H.Reloads.recorded) (H.Waits host.old)))
+        (whole_of (H.offers host.old) (H.Closes host.new) H.Log.held H.Sockets.calls H.StateStore.held H.Reloads.recorded))
         (writer_contents W.contents was.output) (writer_contents W.contents is.output) options.now
         edition said result
         × (E.NeverFails was.errors → Appends (E.held was.errors) (E.held is.errors) said) }
@@ -155,11 +151,8 @@ fn follow<F: ConfigFiles, H: Host, R: OctetSource, W: Write + Drop, E: OctetSink
         IsFollowed
         (LeavesOutput (F.Reads files.now)
         (timed_machine {C = H.Calendar}
-        (whole_machine (machine (OpensAtLine (H.LogOpens host.old) (H.LogIsCut host.old) H.Log.held)
-        (H.SocketsOpen host.old) (H.RoutesIp host.old) (H.Closes host.new) H.Log.held H.Sockets.calls)
-        (state_machine (H.FileReads host.old) (H.LastDenials host.old) (H.StoreOpens host.old)
-        (H.ReloadsOpen host.old) H.StateStore.held H.Reloads.recorded) (H.Waits host.old))) (R.left was.input)
-        (writer_contents W.contents was.output) (writer_contents W.contents is.output))
+        (whole_of (H.offers host.old) (H.Closes host.new) H.Log.held H.Sockets.calls H.StateStore.held H.Reloads.recorded))
+        (R.left was.input) (writer_contents W.contents was.output) (writer_contents W.contents is.output))
         (λ said. E.NeverFails was.errors → Appends (E.held was.errors) (E.held is.errors) said)
         choice.now result }
     ensures lasting { E.NeverFails streams.old.errors → E.NeverFails streams.new.errors }
@@ -214,11 +207,8 @@ pub fn run<F: ConfigFiles, H: Host, R: OctetSource, W: Write + Drop, E: OctetSin
         (λ f. choice ≡ Err f))
         (LeavesOutput (F.Reads files.now)
         (timed_machine {C = H.Calendar}
-        (whole_machine (machine (OpensAtLine (H.LogOpens host.old) (H.LogIsCut host.old) H.Log.held)
-        (H.SocketsOpen host.old) (H.RoutesIp host.old) (H.Closes host.new) H.Log.held H.Sockets.calls)
-        (state_machine (H.FileReads host.old) (H.LastDenials host.old) (H.StoreOpens host.old)
-        (H.ReloadsOpen host.old) H.StateStore.held H.Reloads.recorded) (H.Waits host.old))) (R.left was.input)
-        (writer_contents W.contents was.output) (writer_contents W.contents is.output))
+        (whole_of (H.offers host.old) (H.Closes host.new) H.Log.held H.Sockets.calls H.StateStore.held H.Reloads.recorded))
+        (R.left was.input) (writer_contents W.contents was.output) (writer_contents W.contents is.output))
         (writer_buffer was.output) (writer_buffer is.output)
         (λ line. E.NeverFails was.errors → Appends (E.held was.errors) (E.held is.errors) line)
         (exit_status result) }

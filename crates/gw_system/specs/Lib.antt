@@ -5,6 +5,7 @@ pub mod Host
 pub mod LogEnd
 pub mod Making
 pub mod Obstacle
+pub mod Offers
 pub mod Opening
 pub mod Replacing
 pub mod Waiting

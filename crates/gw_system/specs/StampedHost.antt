@@ -7,6 +7,7 @@ use Rattle.gw_log_words.specs.declared.noted.Noted.{Noted}
 use Rattle.gw_log_words.specs.declared.noted.Place.TheVariants.{Begin}
 use Rattle.gw_log_words.specs.declared.stamped.Stamped.{Stamped}
 use Rattle.gw_system.specs.Host.{LogOpening}
+use Rattle.gw_system.specs.Offers.{Offers, OpensLog}
 use Rattle.gw_system.specs.declared.opening.LogFailure.TheVariants as log_failure
 
 -- the log in which such a log goes on
@@ -44,3 +45,18 @@ OpensStamped LogOpens held name (Err f) =
 -- it begins at a line already
 abbrev pub IsWhole : List ℕ → Bool → Type 0
 IsWhole name cut = cut ≡ false
+
+-- what such a machine gives, by what the other one gives and what a log of that holds
+abbrev pub stamped_offers : {Log C Sockets S Q : Type 0} → Offers Log Sockets S Q → (Log → Option (List ℕ))
+    → Offers (Noted (Stamped Log C)) Sockets S Q
+stamped_offers offers held = record {
+  FileReads = offers.FileReads;
+  LastDenials = offers.LastDenials;
+  StoreOpens = offers.StoreOpens;
+  ReloadsOpen = offers.ReloadsOpen;
+  LogOpens = OpensStamped (OpensLog offers held) held;
+  LogIsCut = IsWhole;
+  Waits = offers.Waits;
+  SocketsOpen = offers.SocketsOpen;
+  RoutesIp = offers.RoutesIp;
+}

@@ -2,18 +2,13 @@
 
 ghost use Rattle.std.specs.Prelude.{◌≡◌, ◌≤◌, ℕ, Bool, List, length, ⊤, Result, Option, IfOk, IfErr, IfSome};
 ghost use Rattle.gw_addr.specs.declared.TheConstants.{MAX_PORTS};
-ghost use Rattle.gw_configuration.specs.declared.port.Port.{Port};
 ghost use Rattle.gw_system.specs.FileRequests.{AreFilesOf};
 ghost use Rattle.gw_system.specs.Making.{IsMade};
-ghost use Rattle.gw_system.specs.Host.{IsSocketFailure, OpensAtLine};
+ghost use Rattle.gw_system.specs.Host.{IsSocketFailure};
+ghost use Rattle.gw_system.specs.Offers.{Offers, OpensLog};
 ghost use Rattle.gw_system.specs.declared.folder.SystemFolder.{SystemFolder};
-ghost use Rattle.gw_system.specs.declared.opening.LogFailure.{LogFailure};
-ghost use Rattle.gw_system.specs.declared.opening.SocketFailure.{SocketFailure};
 ghost use Rattle.gw_system.specs.Requests.{text_found};
 ghost use Rattle.gw_system.specs.Store.{IsStoreOf};
-ghost use Rattle.gw_system.specs.declared.store.StoreKind.{StoreKind};
-ghost use Rattle.gw_system.specs.declared.reading.ReadFailure.{ReadFailure};
-ghost use Rattle.gw_wire.specs.declared.store.StoreFault.{StoreFault};
 
 use crate::disk::SystemDisk;
 use crate::file_log::{self, FileLog};
@@ -64,32 +59,8 @@ pub trait Host {
     /// What may be answered to a request.
     ghost Answers: { Self.Asked → List ℕ → Type 0 };
 
-    /// What reading a file of a name may give.
-    ghost FileReads: { Self → List ℕ → Result (Option (List ℕ)) ReadFailure → Type 0 };
-
-    /// What looking for the last denial of the log of a name may give.
-    ghost LastDenials: { Self → List ℕ → Result (Option (List ℕ)) ReadFailure → Type 0 };
-
-    /// What opening the store of a name may give, by what it is for.
-    ghost StoreOpens: { Self → StoreKind → List ℕ → Result Self.StateStore StoreFault → Type 0 };
-
-    /// What asks by the file of a name to read the configuration of another name, if there is memory for it.
-    ghost ReloadsOpen: { Self → List ℕ → List ℕ → Self.Reloads → Type 0 };
-
-    /// What opening the log of a name may give.
-    ghost LogOpens: { Self → List ℕ → Result Self.Log LogFailure → Type 0 };
-
-    /// Whether the last line of the log of a name may lack its line feed.
-    ghost LogIsCut: { Self → List ℕ → Bool → Type 0 };
-
-    /// What opening the sockets of some ports may give.
-    ghost SocketsOpen: { Self → List Port → Result Self.Sockets SocketFailure → Type 0 };
-
-    /// Whether it may route IP itself.
-    ghost RoutesIp: { Self → Bool → Type 0 };
-
-    /// Whether opening the log of a name may wait for its reader.
-    ghost Waits: { Self → List ℕ → Bool → Type 0 };
+    /// What it may give to a run.
+    ghost offers: { Self → Offers Self.Log Self.Sockets Self.StateStore Self.Reloads };
 
     /// How the sockets, and the log where one was opened, may have been when they were closed.
     ghost Closes: { Self → Self.Sockets → Option Self.Log → Type 0 };
@@ -97,16 +68,16 @@ pub trait Host {
     /// Opens the log of this name, to append to it. Faults: `Failed` if the system doesn't, or the file is
     /// a symbolic link; and `Memory`.
     fn open_log(&self, alloc: Global, name: &str) -> Result<Self::Log, LogFailure>
-        ensures { LogOpens self.now name.now result };
+        ensures { (offers self.now).LogOpens name.now result };
 
     /// Whether the log of this name has octets and doesn't end in a line feed, as where a disk was
     /// full or the power failed. Not where it can't be read.
     fn is_cut(&self, name: &str) -> bool
-        ensures { LogIsCut self.now name.now result };
+        ensures { (offers self.now).LogIsCut name.now result };
 
     /// Whether it routes IP from one interface to another, past the gateway. Not if that can't be read.
     fn routes_ip(&self) -> bool
-        ensures { RoutesIp self.now result };
+        ensures { (offers self.now).RoutesIp result };
 
     /// Opens the sockets of these ports, from 1 to 8, in their order, of each port that of its own
     /// address first. Faults: `Failed`, with the port, the step, the address and the reason, where
@@ -114,7 +85,7 @@ pub trait Host {
     fn open_sockets(&self, alloc: Global, ports: &[Port]) -> Result<Self::Sockets, SocketFailure>
         requires least { 1 ≤ length ports.now }
         requires most { length ports.now ≤ MAX_PORTS }
-        ensures opens { SocketsOpen self.now ports.now result }
+        ensures opens { (offers self.now).SocketsOpen ports.now result }
         ensures ports { IfOk result (λ wire. Self.Sockets.port_count wire ≡ length ports.now) }
         ensures fresh { IfOk result (λ wire. Self.Sockets.failure_count wire ≡ 0) }
         ensures failure { IfErr result (IsSocketFailure (length ports.now)) };
@@ -127,22 +98,22 @@ pub trait Host {
         name: &str,
         most: usize,
     ) -> Result<Option<Vec<u8>>, ReadFailure>
-        ensures { FileReads self.now name.now (text_found result) };
+        ensures { (offers self.now).FileReads name.now (text_found result) };
 
     /// The line of the denial that the log of this name shows last, without what is in front of it, such as a stamp, and its line
     /// feed, looked for in its last 16,777,216 octets. Lines after it show none, as notes. `None` if there is no such file, it isn't
     /// a regular one, or no whole line there shows one. Faults: `Unreadable`, and `Memory`.
     fn last_denial(&self, alloc: Global, name: &str) -> Result<Option<Vec<u8>>, ReadFailure>
-        ensures { LastDenials self.now name.now (text_found result) };
+        ensures { (offers self.now).LastDenials name.now (text_found result) };
 
     /// What [`last_denial`](Host::last_denial) gives, of a log that a stalled reader can't hold up: what has the name must be a regular
     /// file, or nothing. Faults: `Unreadable`, also if it is a pipe, a device or a folder; and `Memory`.
     fn last_record(&self, alloc: Global, name: &str) -> Result<Option<Vec<u8>>, ReadFailure>
-        ensures { LastDenials self.now name.now (text_found result) };
+        ensures { (offers self.now).LastDenials name.now (text_found result) };
 
     /// Whether opening the log of this name may wait for its reader, as that of a named pipe does. Not if it can't be looked at.
     fn waits(&self, name: &str) -> bool
-        ensures { Waits self.now name.now result };
+        ensures { (offers self.now).Waits name.now result };
 
     /// Opens the place that holds a text under this name for that, without reading or making anything. Faults:
     /// `NotPermitted` if it is a symbolic link, and those of the system.
@@ -152,7 +123,7 @@ pub trait Host {
         name: &str,
         kind: StoreKind,
     ) -> Result<Self::StateStore, StoreFault>
-        ensures { StoreOpens self.now kind name.now result };
+        ensures { (offers self.now).StoreOpens kind name.now result };
 
     /// What asks by the file of this name to read that configuration again. The only fault is want of memory.
     fn open_reloads(
@@ -161,7 +132,7 @@ pub trait Host {
         request: &str,
         config: &str,
     ) -> Result<Self::Reloads, AllocError>
-        ensures { IfOk result (ReloadsOpen self.now request.now config.now) };
+        ensures { IfOk result ((offers self.now).ReloadsOpen request.now config.now) };
 
     /// Makes the request of this text by the file of this name, after an older answer was taken away. It waits, some seconds at most,
     /// for others who made one by that file to have their answer.
@@ -194,7 +165,7 @@ pub trait Host {
 /// Opens the log of this name. Where its last line was cut, that gets its line feed, so that the next
 /// one has a line of its own. Faults: `Failed`, and `Memory`.
 pub fn open_at_line<H: Host>(alloc: Global, name: &str, host: &H) -> Result<H::Log, LogFailure>
-    ensures { OpensAtLine (H.LogOpens host.now) (H.LogIsCut host.now) H.Log.held name.now result }
+    ensures { OpensLog (H.offers host.now) H.Log.held name.now result }
 {
     let mut log = host.open_log(alloc, name)?;
     if !host.is_cut(name) {
@@ -284,24 +255,19 @@ impl<'a, R: Files + Net + Clock> Host for SystemHost<'a, R> {
 
     ghost Answers = { λ _ _. ⊤ };
 
-    ghost FileReads = { λ _ _ _. ⊤ };
-
-    ghost LastDenials = { λ _ _ _. ⊤ };
-
-    ghost StoreOpens = { λ _ kind name opened. IfOk opened (IsStoreOf name kind) };
-
-    ghost ReloadsOpen = { λ host request config.
-        let folder : SystemFolder R = record { rt = host.rt } in AreFilesOf folder request config };
-
-    ghost LogOpens = { λ _ _ _. ⊤ };
-
-    ghost LogIsCut = { λ _ _ _. ⊤ };
-
-    ghost SocketsOpen = { λ _ _ _. ⊤ };
-
-    ghost RoutesIp = { λ _ _. ⊤ };
-
-    ghost Waits = { λ _ _ _. ⊤ };
+    ghost offers = { λ host.
+        let folder : SystemFolder R = record { rt = host.rt } in
+        record {
+          FileReads = λ _ _. ⊤;
+          LastDenials = λ _ _. ⊤;
+          StoreOpens = λ kind name opened. IfOk opened (IsStoreOf name kind);
+          ReloadsOpen = λ request config. AreFilesOf folder request config;
+          LogOpens = λ _ _. ⊤;
+          LogIsCut = λ _ _. ⊤;
+          Waits = λ _ _. ⊤;
+          SocketsOpen = λ _ _. ⊤;
+          RoutesIp = λ _. ⊤;
+        } };
 
     ghost Closes = { λ _ _ _. ⊤ };
 

@@ -1,8 +1,7 @@
 //! A machine whose logs have stamps and notes.
 
 ghost use Rattle.std.specs.Prelude.{◌≡◌, Some, IfErr, IfOk};
-ghost use Rattle.gw_system.specs.Host.{OpensAtLine};
-ghost use Rattle.gw_system.specs.StampedHost.{IsBegunIn, IsWhole, OpensStamped, log_if};
+ghost use Rattle.gw_system.specs.StampedHost.{IsBegunIn, log_if, stamped_offers};
 ghost use Rattle.gw_system.specs.declared.opening.LogFailure.TheVariants as failure;
 
 use crate::host::{Host, open_at_line};
@@ -61,24 +60,7 @@ impl<H: Host> Host for StampedHost<'_, H> {
 
     ghost Answers = { H.Answers };
 
-    ghost FileReads = { λ machine. H.FileReads machine.host.now };
-
-    ghost LastDenials = { λ machine. H.LastDenials machine.host.now };
-
-    ghost StoreOpens = { λ machine. H.StoreOpens machine.host.now };
-
-    ghost ReloadsOpen = { λ machine. H.ReloadsOpen machine.host.now };
-
-    ghost LogOpens = { λ machine. OpensStamped (OpensAtLine (H.LogOpens machine.host.now) (H.LogIsCut machine.host.now) H.Log.held)
-        H.Log.held };
-
-    ghost LogIsCut = { λ _. IsWhole };
-
-    ghost SocketsOpen = { λ machine. H.SocketsOpen machine.host.now };
-
-    ghost RoutesIp = { λ machine. H.RoutesIp machine.host.now };
-
-    ghost Waits = { λ machine. H.Waits machine.host.now };
+    ghost offers = { λ machine. stamped_offers (H.offers machine.host.now) H.Log.held };
 
     ghost Closes = { λ machine sockets log. machine.closed ≡ Some (sockets, log) };
 

@@ -2,7 +2,7 @@
 
 ghost use Rattle.std.specs.Prelude.{◌≡◌, Ok, false, IfErr, IfOk};
 ghost use Rattle.gw_policy_text.specs.Document.{configuration};
-ghost use Rattle.gw_system.specs.Host.{OpensAtLine};
+ghost use Rattle.gw_system.specs.Offers.{OpensLog};
 ghost use Rattle.gw_watchers.specs.files.Trial.{IsAuditBy, IsRead, IsTrialBy};
 ghost use Rattle.gw_watchers.specs.files.internal.Parts.{Fits, IsNoFit, IsNoText, IsOpenedBy, IsUnread};
 
@@ -50,8 +50,8 @@ fn config_in(alloc: Global, text: &[u8]) -> Result<Config, WatchFault>
 /// The configuration of the file of this name. `Unreadable` with why it can't be read, also if there is no such file;
 /// `Configuration`, and `Memory`.
 fn read_trial<H: Host>(alloc: Global, name: &str, host: &H) -> Result<Config, WatchFault>
-    ensures found { IfOk result (IsRead (H.FileReads host.now) name.now) }
-    ensures fault { IfErr result (IsUnread (H.FileReads host.now) name.now) }
+    ensures found { IfOk result (IsRead (H.offers host.now).FileReads name.now) }
+    ensures fault { IfErr result (IsUnread (H.offers host.now).FileReads name.now) }
 {
     match host.read_file(alloc, name, MAX_OCTETS) {
         Ok(Some(text)) => config_in(alloc, &text),
@@ -79,8 +79,8 @@ fn check_fit(config: &Config, trial: &Config) -> Result<(), WatchFault>
 /// Opens the log of this name, to go on from its last denial. `Failed` if it can't be opened or read, or isn't a regular file, whose
 /// reader could hold up all; and `Memory`.
 fn open_after<H: Host>(alloc: Global, name: &str, host: &H) -> Result<OpenedLog<H::Log>, LogFailure>
-    ensures { let LogOpens = OpensAtLine (H.LogOpens host.now) (H.LogIsCut host.now) H.Log.held in
-        IsOpenedBy (H.LastDenials host.now) LogOpens name.now result }
+    ensures { let offers = H.offers host.now in
+        IsOpenedBy offers.LastDenials (OpensLog offers H.Log.held) name.now result }
 {
     let line = match host.last_record(alloc, name) {
         Ok(line) => line,
@@ -122,8 +122,8 @@ pub fn open_trial<H: Host>(
     names: TrialNames<'_>,
     host: &H,
 ) -> Result<Beside<Trial, H::Log>, WatchFault>
-    ensures { let LogOpens = OpensAtLine (H.LogOpens host.now) (H.LogIsCut host.now) H.Log.held in
-        IsTrialBy (H.FileReads host.now) (H.LastDenials host.now) LogOpens config.now names.entry.rules.now names.entry.log.now
+    ensures { let offers = H.offers host.now in
+        IsTrialBy offers.FileReads offers.LastDenials (OpensLog offers H.Log.held) config.now names.entry.rules.now names.entry.log.now
         names.entry.has_all_denied result }
 {
     let trial = match read_trial(alloc, names.rules, host) {
@@ -161,8 +161,8 @@ pub fn open_audit<H: Host>(
     name: &str,
     host: &H,
 ) -> Result<Beside<Marks, H::Log>, WatchFault>
-    ensures { let LogOpens = OpensAtLine (H.LogOpens host.now) (H.LogIsCut host.now) H.Log.held in
-        IsAuditBy (H.LastDenials host.now) LogOpens config.now name.now result }
+    ensures { let offers = H.offers host.now in
+        IsAuditBy offers.LastDenials (OpensLog offers H.Log.held) config.now name.now result }
 {
     let Ok(marks) = Marks::new(alloc, config.audits()) else {
         return Err(WatchFault::Memory);

@@ -9,7 +9,7 @@ use Rattle.gw_service.proofs.kept.serve_kept.Goals as goal
 
 pub returns-in-Ok-open-clause-served : goal.returns-in-Ok-open-clause-served
 returns-in-Ok-open-clause-served g c =
-    let opens = subst (λ (ports : List Port). g.H.Host.SocketsOpen c.args.host.now ports (Ok c.in-Ok.sockets)) c.ports.ensures.ports
+    let opens = subst (λ (ports : List Port). (g.H.Host.offers c.args.host.now).SocketsOpen ports (Ok c.in-Ok.sockets)) c.ports.ensures.ports
     c.in-Ok.ensures.opens in
     let before = c.in-Ok-prepare.before in
     let is = c.in-Ok-prepare.ensures in
@@ -52,7 +52,7 @@ pub returns-in-Err-clause-served : goal.returns-in-Err-clause-served
 returns-in-Err-clause-served g c = (
   c.refused.ensures.said.0,
   unopened (opening.Sockets c.in-Err.failure)
-      (subst (λ (ports : List Port). g.H.Host.SocketsOpen c.args.host.now ports (Err c.in-Err.failure)) c.ports.ensures.ports c.in-Err.ensures.opens, refl)
+      (subst (λ (ports : List Port). (g.H.Host.offers c.args.host.now).SocketsOpen ports (Err c.in-Err.failure)) c.ports.ensures.ports c.in-Err.ensures.opens, refl)
       (ap Err c.refused.ensures.fault) c.refused.ensures.said.1,
   c.refused.ensures.said.2,
 )
@@ -61,7 +61,7 @@ pub returns-in-Err-prepare-clause-served : goal.returns-in-Err-prepare-clause-se
 returns-in-Err-prepare-clause-served g c = (
   [],
   unprepared c.in-Err-prepare.fault c.in-Ok.sockets
-      (subst (λ (ports : List Port). g.H.Host.SocketsOpen c.args.host.now ports (Ok c.in-Ok.sockets)) c.ports.ensures.ports c.in-Ok.ensures.opens)
+      (subst (λ (ports : List Port). (g.H.Host.offers c.args.host.now).SocketsOpen ports (Ok c.in-Ok.sockets)) c.ports.ensures.ports c.in-Ok.ensures.opens)
       c.in-Err-prepare.ensures.fault refl refl refl,
   λ never. appends_nothing (g.E.OctetSink.held c.args.errors.now),
 )
@@ -71,7 +71,7 @@ returns-in-Err-open-clause-served g c = (
   c.refused-in-Err-open.ensures.said.0,
   unopened (opening.Log c.in-Err-open.failure) (
     c.in-Ok.sockets,
-    subst (λ (ports : List Port). g.H.Host.SocketsOpen c.args.host.now ports (Ok c.in-Ok.sockets)) c.ports.ensures.ports c.in-Ok.ensures.opens,
+    subst (λ (ports : List Port). (g.H.Host.offers c.args.host.now).SocketsOpen ports (Ok c.in-Ok.sockets)) c.ports.ensures.ports c.in-Ok.ensures.opens,
     c.in-Err-open.ensures.open,
   ) (ap Err c.refused-in-Err-open.ensures.fault) c.refused-in-Err-open.ensures.said.1,
   c.refused-in-Err-open.ensures.said.2,

@@ -4,9 +4,8 @@ use Rattle.std.specs.Io.KnownBytes.{Appends}
 use Rattle.std.specs.Prelude.{option_map, string_bytes}
 use Rattle.gw_notices.proofs.AppendLemmas.{appends_two}
 use Rattle.gw_notices.specs.Startup.{startup_line}
-use Rattle.gw_system.specs.Host.{OpensAtLine}
-use Rattle.gw_service.specs.Kept.{state_machine}
-use Rattle.gw_service.specs.Serving.{machine}
+use Rattle.gw_service.specs.Kept.{states_of}
+use Rattle.gw_service.specs.Serving.{machine_of}
 use Rattle.gw_service.proofs.PlainLemmas.{plain_is_served}
 use Rattle.gw_service.proofs.serving.serve_ports.Goals as goal
 
@@ -20,10 +19,8 @@ returns-clause-served g c =
     let held = g.E.OctetSink.held in
     let old = c.args.host.now in
     let options = c.args.order.options.now in
-    let given = machine (OpensAtLine (g.H.Host.LogOpens old) (g.H.Host.LogIsCut old) g.H.Log.OctetSink.held) (g.H.Host.SocketsOpen old)
-    (g.H.Host.RoutesIp old) (g.H.Host.Closes c.serve_kept.new.host) g.H.Log.OctetSink.held g.H.Sockets.Wire.calls in
-    let states = state_machine (g.H.Host.FileReads old) (g.H.Host.LastDenials old) (g.H.Host.StoreOpens old) (g.H.Host.ReloadsOpen old)
-    g.H.StateStore.Store.held g.H.Reloads.Requests.recorded in
+    let given = machine_of (g.H.Host.offers old) (g.H.Host.Closes c.serve_kept.new.host) g.H.Log.OctetSink.held g.H.Sockets.Wire.calls in
+    let states = states_of (g.H.Host.offers old) g.H.StateStore.Store.held g.H.Reloads.Requests.recorded in
     let line = startup_line options.verbose c.args.order.edition.config (option_map string_bytes options.log) in (
       (note ++ wait) ++ done.0,
       (

@@ -1,7 +1,5 @@
 use Rattle.std.specs.Io.Buffered.{writer_contents}
-use Rattle.gw_system.specs.Host.{OpensAtLine}
-use Rattle.gw_service.specs.Kept.{LeavesService, WholeMachine, state_machine, whole_machine}
-use Rattle.gw_service.specs.Serving.{machine}
+use Rattle.gw_service.specs.Kept.{LeavesService, WholeMachine, whole_of}
 use Rattle.gw_service.specs.StampedRun.{whole_with_stamps}
 use Rattle.gw_service.proofs.StampedLemmas.{with_them, without_them}
 use Rattle.gw_service.proofs.stamped_run.serve_run.Goals as goal
@@ -12,11 +10,8 @@ returns-then-order-clause-served g c =
     let options = c.args.order.options.now in
     let held = writer_contents g.W.Write.contents c.args.output.now in
     let holds = writer_contents g.W.Write.contents c.serve_stamped.new.output in
-    let whole : WholeMachine g.row.H-Log.Denot g.row.H-Sockets.Denot g.row.H-StateStore.Denot g.row.H-Reloads.Denot = whole_machine
-    (machine (OpensAtLine (g.H.Host.LogOpens old) (g.H.Host.LogIsCut old) g.H.Log.OctetSink.held) (g.H.Host.SocketsOpen old)
-    (g.H.Host.RoutesIp old) (g.H.Host.Closes c.serve_stamped.new.host) g.H.Log.OctetSink.held g.H.Sockets.Wire.calls)
-    (state_machine (g.H.Host.FileReads old) (g.H.Host.LastDenials old) (g.H.Host.StoreOpens old) (g.H.Host.ReloadsOpen old)
-    g.H.StateStore.Store.held g.H.Reloads.Requests.recorded) (g.H.Host.Waits old) in
+    let whole : WholeMachine g.row.H-Log.Denot g.row.H-Sockets.Denot g.row.H-StateStore.Denot g.row.H-Reloads.Denot = whole_of (g.H.Host.offers old)
+    (g.H.Host.Closes c.serve_stamped.new.host) g.H.Log.OctetSink.held g.H.Sockets.Wire.calls g.H.StateStore.Store.held g.H.Reloads.Requests.recorded in
     let done = c.serve_stamped.ensures.served in (
       done.0,
       with_them options.stamp
@@ -31,11 +26,8 @@ returns-else-order-clause-served g c =
     let options = c.args.order.options.now in
     let held = writer_contents g.W.Write.contents c.args.output.now in
     let holds = writer_contents g.W.Write.contents c.serve_ports.new.output in
-    let whole : WholeMachine g.row.H-Log.Denot g.row.H-Sockets.Denot g.row.H-StateStore.Denot g.row.H-Reloads.Denot = whole_machine
-    (machine (OpensAtLine (g.H.Host.LogOpens old) (g.H.Host.LogIsCut old) g.H.Log.OctetSink.held) (g.H.Host.SocketsOpen old)
-    (g.H.Host.RoutesIp old) (g.H.Host.Closes c.serve_ports.new.host) g.H.Log.OctetSink.held g.H.Sockets.Wire.calls)
-    (state_machine (g.H.Host.FileReads old) (g.H.Host.LastDenials old) (g.H.Host.StoreOpens old) (g.H.Host.ReloadsOpen old)
-    g.H.StateStore.Store.held g.H.Reloads.Requests.recorded) (g.H.Host.Waits old) in
+    let whole : WholeMachine g.row.H-Log.Denot g.row.H-Sockets.Denot g.row.H-StateStore.Denot g.row.H-Reloads.Denot = whole_of (g.H.Host.offers old)
+    (g.H.Host.Closes c.serve_ports.new.host) g.H.Log.OctetSink.held g.H.Sockets.Wire.calls g.H.StateStore.Store.held g.H.Reloads.Requests.recorded in
     let done = c.serve_ports.ensures.served in (
       done.0,
       without_them options.stamp

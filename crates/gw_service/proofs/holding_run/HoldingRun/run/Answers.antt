@@ -19,13 +19,12 @@ returns-clause-runs g c = λ config is_config.
     let recorded = g.Q.Requests.recorded in
     let log = g.L.OctetSink.held c.serve-answer.new.log in
     let calls = g.W.Wire.calls c.serve-answer.new.wire in
-    ran_holding (holding_manner g.K.Guard.Passes g.K.StateKeeper.Ticks g.K.StateKeeper.Adopts g.K.StateKeeper.troubles g.K.StateKeeper.unkept
-    g.K.StateKeeper.more how g.K.StateKeeper.Lasts)
-    (end_stats (λ h. g.K.StateKeeper.unkept h.keeper) (more_holding g.K.StateKeeper.more) how) how.start c.args.self.now.running.state.left
+    ran_holding (holding_manner g.K.Guard.Passes g.K.StateKeeper.conduct how)
+    (end_stats (λ h. g.K.StateKeeper.conduct.unkept h.keeper) (more_holding g.K.StateKeeper.conduct.more) how) how.start c.args.self.now.running.state.left
     (λ (t : Troubles). stage_of recorded config (record old.running { said = t }) (g.L.OctetSink.held c.args.log.now) (g.W.Wire.calls c.args.wire.now))
     (λ (t : Troubles). stage_of recorded config (record old.running { said = t; announcing = c.announce.new.self })
     (g.L.OctetSink.held c.args.log.now) (g.W.Wire.calls c.announce.new.wire))
-    new.running.origin old.running.said c.notice-self.result (g.K.StateKeeper.troubles old.running.keeper.keeper) old.waiting
+    new.running.origin old.running.said c.notice-self.result (g.K.StateKeeper.conduct.troubles old.running.keeper.keeper) old.waiting
     (λ (d : Configuration). hold (stage_of recorded d new.running log calls) new.waiting)
     c.serve-answer.result (ends log calls) (rest c.end.new.self.keeper (recorded c.end.new.self.requests))
     (never c.args.errors.now) (never c.notice-self.new.errors) (never c.serve-answer.new.errors) (held c.args.errors.now)

@@ -10,8 +10,7 @@ use Rattle.gw_service.proofs.holding_run.HoldingRun.serve_steps.Goals as goal
 
 pub loop-init : goal.loop-init
 loop-init g c =
-    let how = holding_manner g.K.Guard.Passes g.K.StateKeeper.Ticks g.K.StateKeeper.Adopts g.K.StateKeeper.troubles g.K.StateKeeper.unkept
-    g.K.StateKeeper.more (reporting_by c.args.schedule.now) g.K.StateKeeper.Lasts in
+    let how = holding_manner g.K.Guard.Passes g.K.StateKeeper.conduct (reporting_by c.args.schedule.now) in
     let old = c.args.self.now in (
       omega arith,
       refl,
@@ -25,8 +24,7 @@ loop-init g c =
 
 pub loop-preserved : goal.loop-preserved
 loop-preserved g c =
-    let how = holding_manner g.K.Guard.Passes g.K.StateKeeper.Ticks g.K.StateKeeper.Adopts g.K.StateKeeper.troubles g.K.StateKeeper.unkept
-    g.K.StateKeeper.more (reporting_by c.args.schedule.now) g.K.StateKeeper.Lasts in
+    let how = holding_manner g.K.Guard.Passes g.K.StateKeeper.conduct (reporting_by c.args.schedule.now) in
     let old = c.args.self.now in
     let now = c.loop.self in
     let new = c.step.new.self in
@@ -54,8 +52,7 @@ loop-preserved g c =
 
 pub returns-in_err-ended-clause-serves : goal.returns-in_err-ended-clause-serves
 returns-in_err-ended-clause-serves g c =
-    let how = holding_manner g.K.Guard.Passes g.K.StateKeeper.Ticks g.K.StateKeeper.Adopts g.K.StateKeeper.troubles g.K.StateKeeper.unkept
-    g.K.StateKeeper.more (reporting_by c.args.schedule.now) g.K.StateKeeper.Lasts in
+    let how = holding_manner g.K.Guard.Passes g.K.StateKeeper.conduct (reporting_by c.args.schedule.now) in
     let old = c.args.self.now in
     let now = c.loop.self in
     let new = c.step.new.self in
@@ -77,8 +74,7 @@ returns-in_err-ended-clause-serves g c =
 
 pub returns-in-Some-clause-serves : goal.returns-in-Some-clause-serves
 returns-in-Some-clause-serves g c =
-    let how = holding_manner g.K.Guard.Passes g.K.StateKeeper.Ticks g.K.StateKeeper.Adopts g.K.StateKeeper.troubles g.K.StateKeeper.unkept
-    g.K.StateKeeper.more (reporting_by c.args.schedule.now) g.K.StateKeeper.Lasts in
+    let how = holding_manner g.K.Guard.Passes g.K.StateKeeper.conduct (reporting_by c.args.schedule.now) in
     let old = c.args.self.now in
     let now = c.loop.self in
     let new = c.step.new.self in
@@ -98,8 +94,7 @@ returns-in-Some-clause-serves g c =
 
 pub returns-then-self-eq0-clause-serves : goal.returns-then-self-eq0-clause-serves
 returns-then-self-eq0-clause-serves g c =
-    let how = holding_manner g.K.Guard.Passes g.K.StateKeeper.Ticks g.K.StateKeeper.Adopts g.K.StateKeeper.troubles g.K.StateKeeper.unkept
-    g.K.StateKeeper.more (reporting_by c.args.schedule.now) g.K.StateKeeper.Lasts in
+    let how = holding_manner g.K.Guard.Passes g.K.StateKeeper.conduct (reporting_by c.args.schedule.now) in
     let old = c.args.self.now in
     let now = c.loop.self in
     let kept = c.loop.invariant in
@@ -113,8 +108,7 @@ returns-then-self-eq0-clause-serves g c =
 
 pub returns-clause-serves : goal.returns-clause-serves
 returns-clause-serves g c =
-    let how = holding_manner g.K.Guard.Passes g.K.StateKeeper.Ticks g.K.StateKeeper.Adopts g.K.StateKeeper.troubles g.K.StateKeeper.unkept
-    g.K.StateKeeper.more (reporting_by c.args.schedule.now) g.K.StateKeeper.Lasts in
+    let how = holding_manner g.K.Guard.Passes g.K.StateKeeper.conduct (reporting_by c.args.schedule.now) in
     let old = c.args.self.now in
     let now = c.loop.self in
     let kept = c.loop.invariant in

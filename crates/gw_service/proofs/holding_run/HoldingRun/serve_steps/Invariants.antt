@@ -14,8 +14,7 @@ invariant-loop g l =
     ≡ l.fn.self.running.state.served.turns + l.fn.self.running.state.left)
     × CanCount l.self.running.state.served l.self.running.state.tally (g.W.Wire.failure_count l.wire) l.self.running.state.left
     × (g.E.OctetSink.NeverFails l.fn.errors → g.E.OctetSink.NeverFails l.errors)
-    × Stepped (holding_manner g.K.Guard.Passes g.K.StateKeeper.Ticks g.K.StateKeeper.Adopts g.K.StateKeeper.troubles g.K.StateKeeper.unkept
-    g.K.StateKeeper.more (reporting_by l.fn.schedule) g.K.StateKeeper.Lasts) l.fn.self.running.origin
+    × Stepped (holding_manner g.K.Guard.Passes g.K.StateKeeper.conduct (reporting_by l.fn.schedule)) l.fn.self.running.origin
     (λ (c : Configuration). hold (stage_of g.Q.Requests.recorded c l.fn.self.running (g.L.OctetSink.held l.fn.log) (g.W.Wire.calls l.fn.wire)) l.fn.self.waiting)
     l.self.running.origin
     (λ (c : Configuration). hold (stage_of g.Q.Requests.recorded c l.self.running (g.L.OctetSink.held l.log) (g.W.Wire.calls l.wire)) l.self.waiting)

@@ -7,8 +7,7 @@ use Rattle.gw_service.proofs.holding_run.HoldingRun.step.Goals as goal
 
 pub returns-then-ticks-counts-clause-comes : goal.returns-then-ticks-counts-clause-comes
 returns-then-ticks-counts-clause-comes g c = λ config is_config.
-    let how = holding_manner g.K.Guard.Passes g.K.StateKeeper.Ticks g.K.StateKeeper.Adopts g.K.StateKeeper.troubles g.K.StateKeeper.unkept
-    g.K.StateKeeper.more (reporting_by c.args.schedule.now) g.K.StateKeeper.Lasts in
+    let how = holding_manner g.K.Guard.Passes g.K.StateKeeper.conduct (reporting_by c.args.schedule.now) in
     let old = c.args.self.now in
     let recorded = g.Q.Requests.recorded in
     let log = g.L.OctetSink.held in

@@ -14,8 +14,7 @@ use Rattle.gw_service.proofs.holding_run.HoldingRun.step_on_log.Goals as goal
 
 pub returns-then-not-has_log_failed-clause-comes : goal.returns-then-not-has_log_failed-clause-comes
 returns-then-not-has_log_failed-clause-comes g c = λ config is_config.
-    let how = holding_manner g.K.Guard.Passes g.K.StateKeeper.Ticks g.K.StateKeeper.Adopts g.K.StateKeeper.troubles g.K.StateKeeper.unkept
-    g.K.StateKeeper.more (reporting_by c.args.schedule.now) g.K.StateKeeper.Lasts in
+    let how = holding_manner g.K.Guard.Passes g.K.StateKeeper.conduct (reporting_by c.args.schedule.now) in
     let old = c.args.self.now in
     let now = c.advance-ended.new in
     let recorded = g.Q.Requests.recorded in
@@ -36,8 +35,7 @@ returns-then-not-has_log_failed-clause-comes g c = λ config is_config.
 
 pub returns-then-not-hold-clause-comes : goal.returns-then-not-hold-clause-comes
 returns-then-not-hold-clause-comes g c = λ config is_config.
-    let how = holding_manner g.K.Guard.Passes g.K.StateKeeper.Ticks g.K.StateKeeper.Adopts g.K.StateKeeper.troubles g.K.StateKeeper.unkept
-    g.K.StateKeeper.more (reporting_by c.args.schedule.now) g.K.StateKeeper.Lasts in
+    let how = holding_manner g.K.Guard.Passes g.K.StateKeeper.conduct (reporting_by c.args.schedule.now) in
     let old = c.args.self.now in
     let now = c.advance-ended.new in
     let recorded = g.Q.Requests.recorded in
@@ -66,8 +64,7 @@ returns-then-not-hold-clause-comes g c = λ config is_config.
 
 pub returns-clause-comes : goal.returns-clause-comes
 returns-clause-comes g c = λ config is_config.
-    let how = holding_manner g.K.Guard.Passes g.K.StateKeeper.Ticks g.K.StateKeeper.Adopts g.K.StateKeeper.troubles g.K.StateKeeper.unkept
-    g.K.StateKeeper.more (reporting_by c.args.schedule.now) g.K.StateKeeper.Lasts in
+    let how = holding_manner g.K.Guard.Passes g.K.StateKeeper.conduct (reporting_by c.args.schedule.now) in
     let old = c.args.self.now in
     let now = c.advance-ended.new in
     let recorded = g.Q.Requests.recorded in

@@ -6,8 +6,7 @@ use Rattle.gw_service.proofs.holding_run.HoldingRun.step_on_waiting.Goals as goa
 
 pub returns-clause-comes : goal.returns-clause-comes
 returns-clause-comes g c = λ config is_config log.
-    let how = holding_manner g.K.Guard.Passes g.K.StateKeeper.Ticks g.K.StateKeeper.Adopts g.K.StateKeeper.troubles g.K.StateKeeper.unkept
-    g.K.StateKeeper.more (reporting_by c.args.schedule.now) g.K.StateKeeper.Lasts in
+    let how = holding_manner g.K.Guard.Passes g.K.StateKeeper.conduct (reporting_by c.args.schedule.now) in
     let old = c.args.self.now in
     let now = c.advance-ended.new in
     let done = c.advance-ended.ensures.advances config is_config in

@@ -6,14 +6,15 @@ use Rattle.gw_turns.specs.Stretch.{CanCount, moment}
 use Rattle.gw_turns.specs.declared.serving.ServeState.{ServeState}
 use Rattle.gw_notices.specs.declared.troubles.Troubles.{Troubles}
 use Rattle.gw_turns.specs.declared.stretch.StretchEnd.TheVariants as pause
-use Rattle.gw_service.specs.Chain.{FailsToLast, IsStatusIn, WasLasting, edge, look_text, manner, served, stage, standing, withheld}
+use Rattle.gw_service.specs.Chain.{FailsToLast, IsStatusIn, WasLasting, edge, look_text, served, stage, standing, withheld}
 use Rattle.gw_notices.specs.Notices.{metrics_notice, notice_of}
 use Rattle.gw_wire.specs.declared.store.StoreFault.{StoreFault}
-use Rattle.gw_service.specs.Metering.{failing_by, lost_by, metered, meters_by}
+use Rattle.gw_service.specs.Metering.{failing_by, lost_by, metered}
 use Rattle.gw_notices.specs.metrics.Writing.{Writing}
 use Rattle.gw_service.specs.Metrics.{PutsDue}
 use Rattle.gw_service.proofs.MeteringLemmas.{puts_metered}
 use Rattle.gw_service.specs.Scheduled.{reporting_by}
+use Rattle.gw_service.specs.Conduct.{manner_by}
 use Rattle.gw_service.specs.Stats.{all_stats, due_stats}
 use Rattle.gw_service.proofs.ChainLemmas.{advanced_by, advances_as, ends_as, more_at_tick, more_at_turns, more_faulty, more_withheld, went_kept}
 use Rattle.gw_notices.proofs.AppendLemmas.{appends_nothing, appends_two}
@@ -119,7 +120,7 @@ returns-in-Ok-clause-advances g c = λ config is_config.
     let after = c.at_tick-stops.new.self in
     let metrics = metered old.metrics in
     let put = metered c.put_due.new.metrics in
-    let report_of : Option (Writing _) → List ℕ = λ written. due_stats g.K.StateKeeper.unkept g.K.StateKeeper.more
+    let report_of : Option (Writing _) → List ℕ = λ written. due_stats g.K.StateKeeper.conduct.unkept g.K.StateKeeper.conduct.more
     (reporting_by c.args.schedule.now) after.keeper after.counts c.announce.new.self (lost_by (metered written)) after.gateway
     after.state.served after.state.tally in
     let report = report_of old.metrics in
@@ -135,10 +136,7 @@ returns-in-Ok-clause-advances g c = λ config is_config.
     (went_kept g.K.Guard.Passes at turns stretch.gateway (g.L.OctetSink.held stretch.log) synced calls stretch.guard stretch.self.served
     stretch.self.tally end.went c.sync.ensures.keeps)
     c.at_tick-stops.ensures.log in
-    let by = manner g.K.Guard.Passes g.K.StateKeeper.Ticks g.K.StateKeeper.Adopts g.K.StateKeeper.troubles
-    (due_stats g.K.StateKeeper.unkept g.K.StateKeeper.more (reporting_by c.args.schedule.now))
-    (all_stats g.K.StateKeeper.unkept g.K.StateKeeper.more (reporting_by c.args.schedule.now)) (meters_by c.args.schedule.now.start)
-    g.K.StateKeeper.Lasts in
+    let by = manner_by g.K.Guard.Passes g.K.StateKeeper.conduct (reporting_by c.args.schedule.now) in
     let first = stage config at (g.Q.Requests.recorded old.requests) old.counts old.announcing old.said metrics in
     let text = ((look ++ notice) ++ report) ++ lines in
     let left = edge (g.W.Wire.behind c.announce.new.wire) (WasLasting g.L.Lasting.IsLasting g.L.OctetSink.held c.at_tick-stops.new.log)
@@ -160,7 +158,7 @@ returns-in-Ok-clause-advances g c = λ config is_config.
             ticks = end.ticks;
             due = after.announcing;
             done = done.3;
-            status = subst (λ (m : Option (Writing _)). IsStatusIn (all_stats g.K.StateKeeper.unkept g.K.StateKeeper.more (reporting_by c.args.schedule.now)
+            status = subst (λ (m : Option (Writing _)). IsStatusIn (all_stats g.K.StateKeeper.conduct.unkept g.K.StateKeeper.conduct.more (reporting_by c.args.schedule.now)
                 after.keeper after.counts after.announcing (lost_by (metered m)) after.gateway after.state.served after.state.tally) done.1)
                 c.at_tick-stops.ensures.metrics done.5.1;
             announced = c.announce.ensures.announces;
@@ -171,10 +169,10 @@ returns-in-Ok-clause-advances g c = λ config is_config.
             };
             said = c.notice-self.ensures.troubles;
             metrics = puts_metered g.M.Store.held old.metrics c.put_due.new.metrics c.args.schedule.now.start after.gateway after.state.served
-                after.state.tally after.counts c.announce.new.self (g.K.StateKeeper.losses after.keeper) (g.K.StateKeeper.tries after.keeper)
-                (g.K.StateKeeper.decisions after.keeper) c.measure-measured.result c.measure-measured.ensures
+                after.state.tally after.counts c.announce.new.self (g.K.StateKeeper.conduct.losses after.keeper) (g.K.StateKeeper.conduct.tries after.keeper)
+                (g.K.StateKeeper.conduct.decisions after.keeper) c.measure-measured.result c.measure-measured.ensures
                 (subst (λ (m : Option (Writing _)). PutsDue g.M.Store.held m c.measure-measured.result after.gateway
-                (g.K.StateKeeper.decisions after.keeper) c.put_due.new.metrics) c.at_tick-stops.ensures.metrics c.put_due.ensures);
+                (g.K.StateKeeper.conduct.decisions after.keeper) c.put_due.new.metrics) c.at_tick-stops.ensures.metrics c.put_due.ensures);
             lines = refl;
           })),
       λ never.

@@ -11,7 +11,7 @@ returns-clause-done g c = λ config is_config.
     let old = c.args.self.now in
     let held = g.E.OctetSink.held in
     let new = c.look.new.self in
-    let report = all_stats g.K.StateKeeper.unkept g.K.StateKeeper.more (reporting_by c.args.schedule.now) new.keeper new.counts new.announcing
+    let report = all_stats g.K.StateKeeper.conduct.unkept g.K.StateKeeper.conduct.more (reporting_by c.args.schedule.now) new.keeper new.counts new.announcing
     (lost_by (metered new.metrics)) new.gateway new.state.served new.state.tally in
     let looked = c.look.ensures.looked config is_config in (
       looked.0,

@@ -10,7 +10,7 @@ returns-in-Ok-clause-looked g c = λ first report goes.
     let old = c.args.self.now in
     let said = g.Q.Requests.recorded in
     let held = g.E.OctetSink.held in
-    taken_so g.K.StateKeeper.Adopts old.origin old.gateway old.keeper c.adopt.new.self (text_found c.args.read.now) c.in-Ok.field-0 first
+    taken_so g.K.StateKeeper.conduct.Adopts old.origin old.gateway old.keeper c.adopt.new.self (text_found c.args.read.now) c.in-Ok.field-0 first
     (said old.requests) (said c.answer.new.self) c.deref.result.now old.counts c.with_taken_over-self.result old.announcing
     c.with_due-self.result
     (g.E.OctetSink.NeverFails c.args.errors.now) (held c.args.errors.now) (held c.write_note.new.errors) g.L.Notes.Takes c.args.log.now
@@ -30,7 +30,7 @@ returns-in-Err-clause-looked g c = λ first report goes.
     let held = g.E.OctetSink.held in
     let read = text_found c.args.read.now in
     let fault = c.in-Err.fault in
-    refused_so g.K.StateKeeper.Adopts old.origin old.gateway old.keeper read fault first (said old.requests)
+    refused_so g.K.StateKeeper.conduct.Adopts old.origin old.gateway old.keeper read fault first (said old.requests)
     (said c.answer-in-Err.new.self) c.line_or-line.result.now old.counts c.with_refused-self.result old.announcing (g.E.OctetSink.NeverFails c.args.errors.now)
     (held c.args.errors.now) (held c.write_note-in-Err.new.errors) g.L.Notes.Takes c.args.log.now c.take_note-in-Err.new.self
     c.take_note-in-Err.result report c.in-Err.ensures.fault

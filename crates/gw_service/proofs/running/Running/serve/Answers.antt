@@ -4,20 +4,17 @@ use Rattle.gw_script.proofs.Passing.{passes_on}
 use Rattle.gw_turns.specs.Serve.{scene}
 use Rattle.gw_turns.specs.Stretch.{moment}
 use Rattle.gw_turns.specs.declared.serving.ServeFault.{ServeFault}
-use Rattle.gw_service.specs.Chain.{FailsToLast, Stage, WasLasting, edge, manner, stage}
+use Rattle.gw_service.specs.Chain.{FailsToLast, Stage, WasLasting, edge, stage}
 use Rattle.gw_service.specs.declared.running.RunEnd.{RunEnd}
-use Rattle.gw_service.specs.Metering.{metered, meters_by}
+use Rattle.gw_service.specs.Metering.{metered}
+use Rattle.gw_service.specs.Conduct.{manner_by}
 use Rattle.gw_service.specs.Scheduled.{reporting_by}
-use Rattle.gw_service.specs.Stats.{all_stats, due_stats}
 use Rattle.gw_service.proofs.ChainLemmas.{Advanced, Ran, chained_more, chained_none, ran_ended, ran_until}
 use Rattle.gw_service.proofs.running.Running.serve.Goals as goal
 
 pub loop-init : goal.loop-init
 loop-init g c =
-    let how = manner g.K.Guard.Passes g.K.StateKeeper.Ticks g.K.StateKeeper.Adopts g.K.StateKeeper.troubles
-    (due_stats g.K.StateKeeper.unkept g.K.StateKeeper.more (reporting_by c.args.schedule.now))
-    (all_stats g.K.StateKeeper.unkept g.K.StateKeeper.more (reporting_by c.args.schedule.now)) (meters_by c.args.schedule.now.start)
-    g.K.StateKeeper.Lasts in
+    let how = manner_by g.K.Guard.Passes g.K.StateKeeper.conduct (reporting_by c.args.schedule.now) in
     let old = c.args.self.now in (
       omega arith,
       refl,
@@ -31,10 +28,7 @@ loop-init g c =
 
 pub loop-preserved : goal.loop-preserved
 loop-preserved g c =
-    let how = manner g.K.Guard.Passes g.K.StateKeeper.Ticks g.K.StateKeeper.Adopts g.K.StateKeeper.troubles
-    (due_stats g.K.StateKeeper.unkept g.K.StateKeeper.more (reporting_by c.args.schedule.now))
-    (all_stats g.K.StateKeeper.unkept g.K.StateKeeper.more (reporting_by c.args.schedule.now)) (meters_by c.args.schedule.now.start)
-    g.K.StateKeeper.Lasts in
+    let how = manner_by g.K.Guard.Passes g.K.StateKeeper.conduct (reporting_by c.args.schedule.now) in
     let old = c.args.self.now in
     let now = c.loop.self in
     let new = c.advance.new.self in
@@ -68,10 +62,7 @@ loop-preserved g c =
 
 pub returns-in_err-ended-clause-runs : goal.returns-in_err-ended-clause-runs
 returns-in_err-ended-clause-runs g c =
-    let how = manner g.K.Guard.Passes g.K.StateKeeper.Ticks g.K.StateKeeper.Adopts g.K.StateKeeper.troubles
-    (due_stats g.K.StateKeeper.unkept g.K.StateKeeper.more (reporting_by c.args.schedule.now))
-    (all_stats g.K.StateKeeper.unkept g.K.StateKeeper.more (reporting_by c.args.schedule.now)) (meters_by c.args.schedule.now.start)
-    g.K.StateKeeper.Lasts in
+    let how = manner_by g.K.Guard.Passes g.K.StateKeeper.conduct (reporting_by c.args.schedule.now) in
     let old = c.args.self.now in
     let now = c.loop.self in
     let new = c.advance.new.self in
@@ -97,10 +88,7 @@ returns-in_err-ended-clause-runs g c =
 
 pub returns-in-Some-clause-runs : goal.returns-in-Some-clause-runs
 returns-in-Some-clause-runs g c =
-    let how = manner g.K.Guard.Passes g.K.StateKeeper.Ticks g.K.StateKeeper.Adopts g.K.StateKeeper.troubles
-    (due_stats g.K.StateKeeper.unkept g.K.StateKeeper.more (reporting_by c.args.schedule.now))
-    (all_stats g.K.StateKeeper.unkept g.K.StateKeeper.more (reporting_by c.args.schedule.now)) (meters_by c.args.schedule.now.start)
-    g.K.StateKeeper.Lasts in
+    let how = manner_by g.K.Guard.Passes g.K.StateKeeper.conduct (reporting_by c.args.schedule.now) in
     let old = c.args.self.now in
     let now = c.loop.self in
     let new = c.advance.new.self in

@@ -20,7 +20,7 @@ returns-clause-ok g c =
     let after = held c.write_more.new.errors in
     let done = c.write_more.result in
     let metrics = lost_metrics_text (lost_by (metered running.metrics)) in
-    let more = g.K.StateKeeper.more running.keeper c.args.self.now.rules running.gateway in
+    let more = g.K.StateKeeper.conduct.more running.keeper c.args.self.now.rules running.gateway in
     let of_put_off = put_off_text running.announcing.put_off ++ more in
     let of_announcing = announcing_text running.announcing ++ of_put_off in
     let of_lost = metrics ++ of_announcing in
@@ -28,7 +28,7 @@ returns-clause-ok g c =
     let said = subst (λ (n : ℕ). Appends before kept (unkept_text keeps n)) c.unkept.ensures c.in_ok-write_unkept.ensures.ok in
     let of_metrics = subst (λ (n : Option ℕ). Appends reloaded lost (lost_metrics_text n)) c.lost_of.ensures
     c.in_ok-write_lost_metrics.ensures.ok in
-    two_writes done before kept after (unkept_text keeps (g.K.StateKeeper.unkept running.keeper)) of_reloads said
+    two_writes done before kept after (unkept_text keeps (g.K.StateKeeper.conduct.unkept running.keeper)) of_reloads said
     (two_writes done kept reloaded after (reloads_text c.args.self.now.reloads running.counts) of_lost c.in_ok-write_reloads.ensures.ok
     (two_writes done reloaded lost after metrics of_announcing of_metrics
     (two_writes done lost announced after (announcing_text running.announcing) of_put_off c.in_ok-write_announcing.ensures.ok

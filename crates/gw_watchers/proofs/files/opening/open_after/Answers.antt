@@ -7,7 +7,7 @@ use Rattle.gw_watchers.proofs.files.opening.open_after.Goals as goal
 pub returns-in-Ok-open_at_line : goal.returns-in-Ok-open_at_line
 returns-in-Ok-open_at_line g c = record {
   line = option_map (λ (l : Vec ℕ). l.items) c.in-Ok.line;
-  last = subst (λ (r : Result (Option (List ℕ)) ReadFailure). g.H.Host.LastDenials c.args.host.now c.args.name.now r) (found_line c.in-Ok.line)
+  last = subst (λ (r : Result (Option (List ℕ)) ReadFailure). (g.H.Host.offers c.args.host.now).LastDenials c.args.name.now r) (found_line c.in-Ok.line)
       c.in-Ok.ensures;
   number = c.number_after.ensures;
   opens = c.in-Ok-open_at_line.ensures;
