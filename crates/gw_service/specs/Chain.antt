@@ -14,9 +14,10 @@ use Rattle.gw_script.specs.declared.sink.WriteFailed.{WriteFailed}
 use Rattle.gw_turns.specs.Announcing.{Announces, with_due}
 use Rattle.gw_turns.specs.declared.announcing.Announcing.{Announcing}
 use Rattle.gw_turns.specs.Serve.{Try, Turn, scene, taken_event}
-use Rattle.gw_turns.specs.Stretch.{EndsFaulty, GoOn, IsWithheld, Moment}
+use Rattle.gw_turns.specs.Stretch.{CanCount, EndsFaulty, GoOn, IsWithheld, Moment}
 use Rattle.gw_wire.specs.Wire.{Call}
 use Rattle.gw_turns.specs.declared.serving.ServeFault.{ServeFault}
+use Rattle.gw_turns.specs.declared.serving.ServeState.{ServeState}
 use Rattle.gw_turns.specs.declared.serving.Served.{Served}
 use Rattle.gw_turns.specs.declared.tally.DropTally.{DropTally}
 use Rattle.gw_system.specs.Requests.{Asking, Exchange, GoesOn, answered, asked, asked_to_say, asked_to_stop, unasked, untaken}
@@ -62,6 +63,10 @@ manner Passes Ticks Adopts troubles report status Meters Lasts = record {
   Meters = Meters;
   Lasts = Lasts;
 }
+
+-- what serving keeps from turn to turn can count the turns that are left
+abbrev pub CanGoOn : ServeState → (wire_failures : ℕ) → Type 0
+CanGoOn s wire_failures = CanCount s.served s.tally wire_failures s.left
 
 -- ---- a request
 
@@ -111,7 +116,8 @@ pub record IsRefusedSo {K : Type 0} (c : Configuration) (s : Standing K) (read :
 
 -- The configuration of the text is in force: the gateway goes on as one of it that takes over what is saved, and an
 -- announcement is due.
-pub record IsTakenOver {K : Type 0} (Adopts : K → Configuration → State → K → Type 0) (c : Configuration) (s : Standing K) (text : List ℕ) (new : Configuration)
+pub record IsTakenOver {K : Type 0} (Adopts : K → Configuration → State → K → Type 0) (c : Configuration) (s : Standing K) (text : List ℕ)
+    (new : Configuration)
     (d : Configuration) (t : Standing K) : Type 0 where
   pub config : d ≡ new
   pub reads : configuration text ≡ Ok new
@@ -130,13 +136,15 @@ pub record IsUnrequested {K : Type 0} (c : Configuration) (s : Standing K) (d : 
   pub counts : t.counts ≡ s.counts
 
 -- There was a request, or something of its name, after which all stays as it is.
-pub record IsAskedFor {K : Type 0} (exchange : Exchange) (c : Configuration) (s : Standing K) (d : Configuration) (t : Standing K) : Type 0 where
+pub record IsAskedFor {K : Type 0} (exchange : Exchange) (c : Configuration) (s : Standing K) (d : Configuration)
+    (t : Standing K) : Type 0 where
   pub stays : Stays c s d t
   pub requests : GoesOn s.requests t.requests (exchange ∷ [])
   pub counts : t.counts ≡ s.counts
 
 -- There was a request to say what is counted, which was answered so, and all stays as it is.
-pub record IsInquired {K : Type 0} (c : Configuration) (s : Standing K) (answer : List ℕ) (d : Configuration) (t : Standing K) : Type 0 where
+pub record IsInquired {K : Type 0} (c : Configuration) (s : Standing K) (answer : List ℕ) (d : Configuration)
+    (t : Standing K) : Type 0 where
   pub stays : Stays c s d t
   pub requests : GoesOn s.requests t.requests (asked_to_say ∷ answered answer ∷ [])
   pub counts : t.counts ≡ s.counts
@@ -195,19 +203,22 @@ IsStatusIn report (refused read fault line) = ⊤
 IsStatusIn report (taken_over text new) = ⊤
 
 -- So it is noted, and this says whether the gateway is to stop.
-abbrev pub IsNotedBy : {L : Type 0} → (Takes : L → List ℕ → Result (Unit {0}) WriteFailed → L → Type 0) → (log log_then : L) → (stops : Bool)
+abbrev pub IsNotedBy : {L : Type 0} → (Takes : L → List ℕ → Result (Unit {0}) WriteFailed → L → Type 0) → (log log_then : L)
+    → (stops : Bool)
     → Look → List ℕ → Type 0
 IsNotedBy Takes log log_then stops look line = IsNoted Takes log log_then look line × (stops ≡ is_stopping look)
 
 -- and what is counted is said by this report, if that is asked for
-abbrev pub IsNotedWith : {L : Type 0} → (Takes : L → List ℕ → Result (Unit {0}) WriteFailed → L → Type 0) → (log log_then : L) → (stops : Bool)
+abbrev pub IsNotedWith : {L : Type 0} → (Takes : L → List ℕ → Result (Unit {0}) WriteFailed → L → Type 0) → (log log_then : L)
+    → (stops : Bool)
     → (report : List ℕ) → Look → List ℕ → Type 0
 IsNotedWith Takes log log_then stops report look line = IsNotedBy Takes log log_then stops look line × IsStatusIn report look
 
 -- What is done about a request, whatever configuration this origin is of: one of these looks, which leads to one of a
 -- configuration of that origin; what is said of it is written, if that never fails; and the log takes a note of it.
 abbrev pub Looks : {K : Type 0} → (Done : Configuration → Standing K → Look → Configuration → Standing K → Type 0)
-    → (Noted : Look → List ℕ → Type 0) → Origin → Standing K → Origin → Standing K → (Never : Type 0) → (held holds : Option (List ℕ)) → Type 0
+    → (Noted : Look → List ℕ → Type 0) → Origin → Standing K → Origin → Standing K → (Never : Type 0) → (held holds : Option (List ℕ))
+    → Type 0
 Looks Done Noted o s p t Never held holds =
     (c : Configuration) → o ≡ origin_of c → (d : Configuration) × (look : Look) × (p ≡ origin_of d)
     × Done c s look d t × (Never → Appends held holds (look_text c s look)) × Noted look (look_text c s look)
@@ -266,7 +277,8 @@ pub record IsServed {K : Type 0} (manner : Manner K) (s : Stage K) (turns : List
 
 -- turns were served, the last of which took a tick, and what was due then was done, announced and reported; and whether the
 -- gateway is to stop
-pub record IsTicked {K : Type 0} (manner : Manner K) (stops : Bool) (s : Stage K) (turns : List Turn) (look : Look) (text : List ℕ) (t : Stage K)
+pub record IsTicked {K : Type 0} (manner : Manner K) (stops : Bool) (s : Stage K) (turns : List Turn) (look : Look) (text : List ℕ)
+    (t : Stage K)
     : Type 0 where
   pub is : stops ≡ is_stopping look
   pub before : List Turn
@@ -345,7 +357,8 @@ pub record RunsWhole {K : Type 0} (manner : Manner K) (count : ℕ) (first : Sta
   pub turns : last.now.served.turns ≡ first.now.served.turns + count
 
 -- the last event ended in a fault; if the log failed, this is what it lacks of the event's lines
-pub record EndsSo {K : Type 0} (manner : Manner K) (count : ℕ) (fault : ServeFault) (unwritten : List ℕ) (then last : Stage K) : Type 0 where
+pub record EndsSo {K : Type 0} (manner : Manner K) (count : ℕ) (fault : ServeFault) (unwritten : List ℕ)
+    (then last : Stage K) : Type 0 where
   pub ends : EndsFaulty manner.Passes count then.now fault unwritten last.now
   pub config : last.config ≡ then.config
   pub requests : last.requests ≡ then.requests
@@ -355,7 +368,8 @@ pub record EndsSo {K : Type 0} (manner : Manner K) (count : ℕ) (fault : ServeF
   pub metrics : last.metrics ≡ then.metrics
 
 -- it did so before so many turns were served
-pub record RunsUntil {K : Type 0} (manner : Manner K) (fault : ServeFault) (count : ℕ) (first : Stage K) (links : List Link) (last : Stage K)
+pub record RunsUntil {K : Type 0} (manner : Manner K) (fault : ServeFault) (count : ℕ) (first : Stage K) (links : List Link)
+    (last : Stage K)
     : Type 0 where
   pub then : Stage K
   pub chain : AreLinks manner first links then
@@ -424,7 +438,8 @@ DoesDue s (ended turns text) t edge = (edge.behind ≡ false) × edge.Lasted
 -- what is done after a stretch of at most so many turns, by whether the gateway is to stop
 abbrev pub AdvancesBy : {K : Type 0} → Manner K → (stops : Bool) → Stage K → List ℕ → Stage K → Edge → Type 0
 AdvancesBy manner false s text t edge = (link : Link) × IsLink manner s link t × (text ≡ link_text link) × DoesDue s link t edge
-AdvancesBy manner true s text t edge = (turns : List Turn) × IsTicked manner true s turns stopping text t × DoesDue s (ended turns text) t edge
+AdvancesBy manner true s text t edge =
+    (turns : List Turn) × IsTicked manner true s turns stopping text t × DoesDue s (ended turns text) t edge
 
 -- Turns were served to a tick behind which no other is due, the log couldn't be made to last, and nothing else was done.
 pub record AdvancesUnsynced {K : Type 0} (manner : Manner K) (count : ℕ) (s : Stage K) (text : List ℕ) (t : Stage K) (edge : Edge)

@@ -37,8 +37,8 @@ IsNumbered (Some saved) (Some line) None = ⊥
 
 -- ---- the counts
 
--- The counts after a denial of this tick and number: none is less than it was, than the denial's number or than its tick, up to 2^63, at which a
--- gateway counts no more.
+-- The counts after a denial of this tick and number: none is less than it was, than the denial's number or than its tick, up to
+-- 2^63, at which a gateway counts no more.
 abbrev pub counts_with : Counts → (tick number : ℕ) → Counts
 counts_with counts tick number = record {
   ticks = greater counts.ticks (less tick (2 ^ 63));

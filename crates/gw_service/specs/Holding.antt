@@ -98,7 +98,8 @@ holding_manner Passes conduct how = manner_by (PassesHolding Passes) (conduct_ho
 -- ---- a step
 
 -- the stage of a gateway that runs, over this log and these calls
-abbrev pub stage_of : {K Q M : Type 0} → (Q → Asking) → Configuration → Running K Q M → (log : Option (List ℕ)) → (calls : Option (List Call))
+abbrev pub stage_of : {K Q M : Type 0} → (Q → Asking) → Configuration → Running K Q M → (log : Option (List ℕ))
+    → (calls : Option (List Call))
     → Stage K
 stage_of recorded c r log calls =
     stage c (moment (scene r.gateway log calls) r.keeper r.state.served r.state.tally) (recorded r.requests) r.counts r.announcing r.said
@@ -325,7 +326,8 @@ abbrev pub Finishes : {K : Type 0} → Hold K → (text : List ℕ) → Hold K �
 Finishes s text t = ((s.waiting ≡ []) × (t ≡ s) × (text ≡ [])) ⊎ ((front : List ℕ) × IsWritten s front text t)
 
 -- Steps lead to where the last stretch ends serving, after so many turns if it had them all.
-pub record ServesHolding {K : Type 0} (manner : Manner (Holding K)) (count : ℕ) (first : Hold K) (how : Result RunEnd ServeFault) (text : List ℕ)
+pub record ServesHolding {K : Type 0} (manner : Manner (Holding K)) (count : ℕ) (first : Hold K) (how : Result RunEnd ServeFault)
+    (text : List ℕ)
     (last : Hold K) : Type 0 where
   pub steps : List Step
   pub after : Hold K
@@ -344,7 +346,8 @@ abbrev pub answer_holding : (waiting : List ℕ) → Result RunEnd ServeFault �
 answer_holding waiting how = answer_by (length waiting == 0) how
 
 -- So a run is served that may hold, and at the end what waits is tried to be written once more.
-pub record RunsHolding {K : Type 0} (manner : Manner (Holding K)) (count : ℕ) (first : Hold K) (answer : Result RunEnd ServeFault) (text : List ℕ)
+pub record RunsHolding {K : Type 0} (manner : Manner (Holding K)) (count : ℕ) (first : Hold K) (answer : Result RunEnd ServeFault)
+    (text : List ℕ)
     (last : Hold K) : Type 0 where
   pub how : Result RunEnd ServeFault
   pub served_text : List ℕ

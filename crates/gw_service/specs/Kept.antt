@@ -138,7 +138,8 @@ IsTrialNote FileReads (Some name) c note =
     (read : Result (Option (List ℕ)) ReadFailure) × FileReads name read × IsTrialNoteOf c read note
 
 -- what is said at the start: of the state, and of the trial
-pub record IsTextBefore (FileReads : List ℕ → Result (Option (List ℕ)) ReadFailure → Type 0) (state trial : Option (List ℕ)) (is_verbose : Bool)
+pub record IsTextBefore (FileReads : List ℕ → Result (Option (List ℕ)) ReadFailure → Type 0) (state trial : Option (List ℕ))
+    (is_verbose : Bool)
     (c : Configuration) (saved : Option Saved) (text : List ℕ) : Type 0 where
   pub note : List ℕ
   pub tried : IsTrialNote FileReads trial c note
@@ -258,19 +259,23 @@ rest keeper requests = record { keeper = keeper; requests = requests }
 
 -- what a run does at its end, from the last stage of it: it keeps its state once more, whatever ended it; if it was asked to stop,
 -- it puts its metrics once more; it reports what was done; and if it was asked to stop, it answers that
-pub record EndsRun {K : Type 0} (manner : Manner K) (last_report : K → ReloadCounts → Announcing → Option ℕ → State → Served → DropTally → List ℕ)
+pub record EndsRun {K : Type 0} (manner : Manner K)
+    (last_report : K → ReloadCounts → Announcing → Option ℕ → State → Served → DropTally → List ℕ)
     (start : Counts) (answer : Result RunEnd ServeFault) (last : Stage K) (left : Rest K) (text : List ℕ) : Type 0 where
   pub keeps : manner.Lasts last.now.guard last.now.scene.gateway left.keeper
   pub metrics : Option Metering
   pub put : MetersEnd answer last.metrics (seconds_of start last.now.scene.gateway last.now.served last.now.tally) metrics
   pub answers : AnswersStop answer (manner.troubles left.keeper).state last.requests left.requests
-  pub said : text ≡ last_report left.keeper last.counts last.announcing (lost_by metrics) last.now.scene.gateway last.now.served last.now.tally
+  pub said : text ≡ last_report left.keeper last.counts last.announcing (lost_by metrics) last.now.scene.gateway
+      last.now.served last.now.tally
       ++ stop_text answer (manner.troubles left.keeper).state
 
 -- A run of so many turns from a stage, by its answer: what isn't kept or recorded is reported first, then what is due is announced,
 -- before the first turn, and last is what it does at its end.
-pub record RunsFrom {K : Type 0} (manner : Manner K) (last_report : K → ReloadCounts → Announcing → Option ℕ → State → Served → DropTally → List ℕ)
-    (start : Counts) (turns : ℕ) (first : Stage K) (answer : Result RunEnd ServeFault) (after : Ends) (left : Rest K) (text : List ℕ) : Type 0 where
+pub record RunsFrom {K : Type 0} (manner : Manner K)
+    (last_report : K → ReloadCounts → Announcing → Option ℕ → State → Served → DropTally → List ℕ)
+    (start : Counts) (turns : ℕ) (first : Stage K) (answer : Result RunEnd ServeFault) (after : Ends) (left : Rest K)
+    (text : List ℕ) : Type 0 where
   pub begun : Stage K
   pub begins : Begins first begun
   pub links : List Link
@@ -286,7 +291,8 @@ pub record RunsFrom {K : Type 0} (manner : Manner K) (last_report : K → Reload
 -- what it does at its end.
 pub record RunsFromHolding {K : Type 0} (manner : Manner (Holding K))
     (last_report : Holding K → ReloadCounts → Announcing → Option ℕ → State → Served → DropTally → List ℕ)
-    (start : Counts) (turns : ℕ) (first : Stage (Holding K)) (answer : Result RunEnd ServeFault) (after : Ends) (left : Rest (Holding K)) (text : List ℕ)
+    (start : Counts) (turns : ℕ) (first : Stage (Holding K)) (answer : Result RunEnd ServeFault) (after : Ends) (left : Rest (Holding K))
+    (text : List ℕ)
     : Type 0 where
   pub begun : Stage (Holding K)
   pub begins : Begins first begun
@@ -346,7 +352,8 @@ abbrev pub IsUnbegun : (before after : Ends) → (text : List ℕ) → (outcome 
 IsUnbegun before after text outcome = (after ≡ before) × (text ≡ []) × (outcome ≡ Err fault.Memory)
 
 -- what a run leaves that keeps its state or reads its configuration again
-abbrev pub LeavesKept : {S Q L : Type 0} → Given S Q L → Configuration → Service → Ends → Ends → List ℕ → Result (Unit {0}) ServiceFault → Type 0
+abbrev pub LeavesKept : {S Q L : Type 0} → Given S Q L → Configuration → Service → Ends → Ends → List ℕ → Result (Unit {0}) ServiceFault
+    → Type 0
 LeavesKept given c how before after text outcome =
     RunsBy given how.holds c how before after text outcome ⊎ IsUnbegun before after text outcome
 
@@ -431,7 +438,8 @@ pub data LeavesWithState {Log Sockets S Q : Type 0} (machine : Machine Log Socke
       AreOpen machine.LogOpens (machine.SocketsOpen e.config.ports) names.log held output log sockets →
       machine.Closes sockets_then log_then → LogStays log log_then output holds →
       LeavesKept (given states.held states.said machine.held before) e.config how
-      (ends (log_held machine.held log output) (machine.calls sockets)) (ends (log_held machine.held log_then holds) (machine.calls sockets_then))
+      (ends (log_held machine.held log output) (machine.calls sockets))
+      (ends (log_held machine.held log_then holds) (machine.calls sockets_then))
       text outcome →
       IsWarning machine.RoutesIp is_verbose warning → said ≡ ((line ++ warning) ++ before.text.items) ++ text →
       LeavesWithState machine states names held holds e how is_verbose line said outcome
@@ -473,7 +481,8 @@ LeavesChosen whole options held holds e said outcome =
     let name = option_map string_bytes options.log in
     let line = startup_line options.verbose e.config name in
     LeavesWithState whole.machine whole.states (names_of options) held holds e (service_by options) options.verbose line said outcome
-    × (is_plain options ≡ true → e.config.announce ≡ false → LeavesServed whole.machine name held holds e.config options.turns options.verbose line said outcome)
+    × (is_plain options ≡ true → e.config.announce ≡ false
+    → LeavesServed whole.machine name held holds e.config options.turns options.verbose line said outcome)
 
 -- whether opening the log may wait for its reader: if it is in a file, what the machine says of that
 abbrev pub IsWaiting : (Waits : List ℕ → Bool → Type 0) → (log : Option (List ℕ)) → Bool → Type 0
@@ -489,5 +498,6 @@ waiting_note false = []
 abbrev pub LeavesService : {Log Sockets S Q : Type 0} → WholeMachine Log Sockets S Q → RunOptions → (held holds : Option (List ℕ))
     → Edition → List ℕ → Result (Unit {0}) ServiceFault → Type 0
 LeavesService whole options held holds e said outcome =
-    (waits : Bool) × IsWaiting whole.Waits (option_map string_bytes options.log) waits × (rest : List ℕ) × (said ≡ (unaudited_note e.config.audits (is_some options.audit) ++ waiting_note waits) ++ rest)
+    (waits : Bool) × IsWaiting whole.Waits (option_map string_bytes options.log) waits × (rest : List ℕ)
+    × (said ≡ (unaudited_note e.config.audits (is_some options.audit) ++ waiting_note waits) ++ rest)
     × LeavesChosen whole options held holds e rest outcome

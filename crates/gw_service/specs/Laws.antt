@@ -96,8 +96,8 @@ NobodyAsks {K} manner =
     (count : ℕ) (s t : Stage K) (answer : Result RunEnd ServeFault) (links : List Link) → Runs manner count s answer links t
     → s.requests ≡ nobody → StaysUnasked s links t
 
--- A run that keeps no state, looks for no request, announces nothing and doesn't go on if its log fails, but may report or be watched, is one of `serve` from the
--- gateway's first state: its log, its wire's calls and its outcome are those.
+-- A run that keeps no state, looks for no request, announces nothing and doesn't go on if its log fails, but may report or be
+-- watched, is one of `serve` from the gateway's first state: its log, its wire's calls and its outcome are those.
 abbrev pub IsAsServed : {S Q L : Type 0} → Given S Q L → Type 0
 IsAsServed {S} {Q} {L} given =
     given.saved ≡ None → given.line ≡ None → given.store ≡ None → given.requests ≡ None

@@ -74,7 +74,8 @@ ports_of r states = counts_from r 0 states
 
 -- What is written of a run: what was measured, how many asks each of these rules decided, what is counted of each port, and how many
 -- texts were lost. What was received was taken, or memory was refused for it.
-pub record AreCounts (m : Measures) (in_force : List Rule) (decided : Option (List ℕ)) (by_port : List PortCounts) (lost : ℕ) (c : GatewayCounts)
+pub record AreCounts (m : Measures) (in_force : List Rule) (decided : Option (List ℕ)) (by_port : List PortCounts) (lost : ℕ)
+    (c : GatewayCounts)
     : Type 0 where
   pub ticks : c.ticks ≡ m.report.seconds
   pub received : c.received ≡ min (m.report.datagrams + m.report.memory_drops) (2 ^ 64 - 1)

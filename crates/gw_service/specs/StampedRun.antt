@@ -38,7 +38,8 @@ with_stamps {Log} {C} plain =
     (λ sockets log. (last : Option (Noted (Stamped Log C))) × EndsIn plain.held log last × plain.Closes sockets (log_if last))
     (held_in plain.held) plain.calls
 
-abbrev pub whole_with_stamps : {Log C Sockets S Q : Type 0} → WholeMachine Log Sockets S Q → WholeMachine (Noted (Stamped Log C)) Sockets S Q
+abbrev pub whole_with_stamps : {Log C Sockets S Q : Type 0} → WholeMachine Log Sockets S Q
+    → WholeMachine (Noted (Stamped Log C)) Sockets S Q
 whole_with_stamps plain = whole_machine (with_stamps plain.machine) plain.states plain.Waits
 
 -- what a machine may give to a run whose log may have stamps, for which `C` gives the time of day

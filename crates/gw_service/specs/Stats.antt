@@ -34,7 +34,8 @@ with_rules how rules = reporting how.seconds rules how.start how.keeps how.reloa
 
 -- how often the state couldn't be kept and the configuration was read again, how many texts of metrics were lost, what was
 -- announced, how often that was put off, and what else the keeper reports, with the rules or without
-abbrev pub tries_text : {K : Type 0} → (K → ℕ) → (K → (rules : Bool) → State → List ℕ) → Reporting → K → ReloadCounts → Announcing → Option ℕ → State
+abbrev pub tries_text : {K : Type 0} → (K → ℕ) → (K → (rules : Bool) → State → List ℕ) → Reporting → K → ReloadCounts → Announcing
+    → Option ℕ → State
     → List ℕ
 tries_text unkept more how k counts announcing lost w =
     unkept_text how.keeps (unkept k)

@@ -96,7 +96,8 @@ abbrev pub AreCountsUnder : Configuration → WatchNames → Option (List ℕ) �
 AreCountsUnder c names counts = AreCountsOf c names.counts counts
 
 -- what watches at the start: nothing, if nothing is asked for
-pub record WatchesUnder {Log : Type 0} (FileReads LastDenials : List ℕ → Result (Option (List ℕ)) ReadFailure → Type 0) (LogOpens : LogOpening Log)
+pub record WatchesUnder {Log : Type 0} (FileReads LastDenials : List ℕ → Result (Option (List ℕ)) ReadFailure → Type 0)
+    (LogOpens : LogOpening Log)
     (c : Configuration) (names : WatchNames) (w : Watching Log Log) : Type 0 where
   pub trial : IsTrialUnder FileReads LastDenials LogOpens c names (Ok w.trial)
   pub audit : IsAuditUnder LastDenials LogOpens c names (Ok w.audit)
@@ -115,12 +116,14 @@ IsUnwatched FileReads LastDenials LogOpens c names f =
 -- ---- while it runs
 
 -- At a tick what keeps the state does what is due, and what watches stays.
-abbrev pub IsKeptAtTickBeside : {S T A : Type 0} → (S → Option (List ℕ)) → BothGuards (Watching T A) (Kept S) → State → BothGuards (Watching T A) (Kept S)
+abbrev pub IsKeptAtTickBeside : {S T A : Type 0} → (S → Option (List ℕ)) → BothGuards (Watching T A) (Kept S) → State
+    → BothGuards (Watching T A) (Kept S)
     → Type 0
 IsKeptAtTickBeside held k w l = IsKeptAtTick held k.second w l.second × (l.first ≡ k.first)
 
 -- So it is at the end.
-abbrev pub IsKeptLastBeside : {S T A : Type 0} → (S → Option (List ℕ)) → BothGuards (Watching T A) (Kept S) → State → BothGuards (Watching T A) (Kept S)
+abbrev pub IsKeptLastBeside : {S T A : Type 0} → (S → Option (List ℕ)) → BothGuards (Watching T A) (Kept S) → State
+    → BothGuards (Watching T A) (Kept S)
     → Type 0
 IsKeptLastBeside held k w l = IsKeptLast held k.second w l.second × (l.first ≡ k.first)
 

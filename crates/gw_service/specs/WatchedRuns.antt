@@ -18,7 +18,8 @@ TrialIsWhole {T} {A} trial audit = (before after : Moment (Watching T A)) (turns
     GoOn (HasWatched trial audit) before turns after → before.guard.trial ≡ Some b → after.guard.trial ≡ Some c →
     b.is_cut ≡ false → c.lost ≡ 0 → after.guard.unseen ≡ 0 →
     Appends (trial b.sink) (trial c.sink)
-    (lines_of (run_records (tried_by b.choice) (trial_front b.choice) (λ _. b.choice.policy) b.number before.scene.gateway (events_of turns)))
+    (lines_of (run_records (tried_by b.choice) (trial_front b.choice) (λ _. b.choice.policy) b.number before.scene.gateway
+    (events_of turns)))
 
 -- So has an audit those of the asks of the run that a marked rule allowed.
 abbrev pub AuditIsWhole : {T A : Type 0} → (T → Option (List ℕ)) → (A → Option (List ℕ)) → Type 0

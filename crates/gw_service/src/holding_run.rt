@@ -7,7 +7,7 @@ ghost use Rattle.gw_configuration.specs.Configuration.{Configuration};
 ghost use Rattle.gw_state.specs.Saved.{origin_of};
 ghost use Rattle.gw_system.specs.Requests.{IsAsking};
 ghost use Rattle.gw_turns.specs.Pace.{one_more};
-ghost use Rattle.gw_turns.specs.Stretch.{CanCount};
+ghost use Rattle.gw_service.specs.Chain.{CanGoOn};
 ghost use Rattle.gw_service.specs.Holding.{Finishes, GoesTo, RunsHolding, ServesHolding, answer_holding, goes_on, has_log_failed, hold, holding_manner, more_holding, stage_of, waits_line, written_line};
 ghost use Rattle.gw_service.specs.Kept.{RunsFromHolding, is_stopped, rest};
 ghost use Rattle.gw_service.specs.Serving.{ends};
@@ -100,7 +100,7 @@ impl<K: StateKeeper, Q: Requests, M: Store + Drop> HoldingRun<K, Q, M> {
         errors: &mut E,
         schedule: &Schedule,
     ) -> Result<Option<RunEnd>, ServeFault>
-        requires count { CanCount self.old.running.state.served self.old.running.state.tally (W.failure_count wire.old) self.old.running.state.left }
+        requires count { CanGoOn self.old.running.state (W.failure_count wire.old) }
         requires none { self.old.waiting ≡ [] }
         ensures comes { (c : Configuration) → self.old.running.origin ≡ origin_of c →
             let before = hold (stage_of Q.recorded c self.old.running (L.held log.old) (W.calls wire.old)) self.old.waiting in
@@ -110,7 +110,7 @@ impl<K: StateKeeper, Q: Requests, M: Store + Drop> HoldingRun<K, Q, M> {
             × (E.NeverFails errors.old → Appends (E.held errors.old) (E.held errors.new) text) }
         ensures left { self.new.running.state.served.turns + self.new.running.state.left
             ≡ self.old.running.state.served.turns + self.old.running.state.left }
-        ensures rest { CanCount self.new.running.state.served self.new.running.state.tally (W.failure_count wire.new) self.new.running.state.left }
+        ensures rest { CanGoOn self.new.running.state (W.failure_count wire.new) }
         ensures more { 0 < self.old.running.state.left →
             OnOk result (self.old.running.state.served.turns < self.new.running.state.served.turns) }
         ensures asking { result ≡ Ok (Some RunEnd.Stopped) → IsAsking (Q.recorded self.new.running.requests) }
@@ -134,7 +134,7 @@ impl<K: StateKeeper, Q: Requests, M: Store + Drop> HoldingRun<K, Q, M> {
         errors: &mut E,
         schedule: &Schedule,
     ) -> Result<Option<RunEnd>, ServeFault>
-        requires count { CanCount self.old.running.state.served self.old.running.state.tally (W.failure_count wire.old) self.old.running.state.left }
+        requires count { CanGoOn self.old.running.state (W.failure_count wire.old) }
         requires some { ¬ (self.old.waiting ≡ []) }
         ensures comes { (c : Configuration) → self.old.running.origin ≡ origin_of c → (log : Option (List ℕ)) →
             let before = hold (stage_of Q.recorded c self.old.running log (W.calls wire.old)) self.old.waiting in
@@ -144,7 +144,7 @@ impl<K: StateKeeper, Q: Requests, M: Store + Drop> HoldingRun<K, Q, M> {
             × (E.NeverFails errors.old → Appends (E.held errors.old) (E.held errors.new) text) }
         ensures left { self.new.running.state.served.turns + self.new.running.state.left
             ≡ self.old.running.state.served.turns + self.old.running.state.left }
-        ensures rest { CanCount self.new.running.state.served self.new.running.state.tally (W.failure_count wire.new) self.new.running.state.left }
+        ensures rest { CanGoOn self.new.running.state (W.failure_count wire.new) }
         ensures more { 0 < self.old.running.state.left →
             OnOk result (self.old.running.state.served.turns < self.new.running.state.served.turns) }
         ensures asking { result ≡ Ok (Some RunEnd.Stopped) → IsAsking (Q.recorded self.new.running.requests) }
@@ -186,7 +186,7 @@ impl<K: StateKeeper, Q: Requests, M: Store + Drop> HoldingRun<K, Q, M> {
         errors: &mut E,
         schedule: &Schedule,
     ) -> Result<Option<RunEnd>, ServeFault>
-        requires count { CanCount self.old.running.state.served self.old.running.state.tally (W.failure_count wire.old) self.old.running.state.left }
+        requires count { CanGoOn self.old.running.state (W.failure_count wire.old) }
         ensures comes { (c : Configuration) → self.old.running.origin ≡ origin_of c →
             let before = hold (stage_of Q.recorded c self.old.running (L.held log.old) (W.calls wire.old)) self.old.waiting in
             (d : Configuration) × (text : List ℕ) × (self.new.running.origin ≡ origin_of d)
@@ -195,7 +195,7 @@ impl<K: StateKeeper, Q: Requests, M: Store + Drop> HoldingRun<K, Q, M> {
             × (E.NeverFails errors.old → Appends (E.held errors.old) (E.held errors.new) text) }
         ensures left { self.new.running.state.served.turns + self.new.running.state.left
             ≡ self.old.running.state.served.turns + self.old.running.state.left }
-        ensures rest { CanCount self.new.running.state.served self.new.running.state.tally (W.failure_count wire.new) self.new.running.state.left }
+        ensures rest { CanGoOn self.new.running.state (W.failure_count wire.new) }
         ensures more { 0 < self.old.running.state.left →
             OnOk result (self.old.running.state.served.turns < self.new.running.state.served.turns) }
         ensures asking { result ≡ Ok (Some RunEnd.Stopped) → IsAsking (Q.recorded self.new.running.requests) }
@@ -213,8 +213,8 @@ impl<K: StateKeeper, Q: Requests, M: Store + Drop> HoldingRun<K, Q, M> {
         ended
     }
 
-    /// Serves a wire for the turns that are left, stretch by stretch. Faults: those of [`Running::serve`]; the log's only if what it lacks can't
-    /// wait.
+    /// Serves a wire for the turns that are left, stretch by stretch. Faults: those of [`Running::serve`]; the log's only if what
+    /// it lacks can't wait.
     fn serve_steps<W: Wire, L: Notes, E: OctetSink>(
         &mut self,
         wire: &mut W,
@@ -222,7 +222,7 @@ impl<K: StateKeeper, Q: Requests, M: Store + Drop> HoldingRun<K, Q, M> {
         errors: &mut E,
         schedule: &Schedule,
     ) -> Result<RunEnd, ServeFault>
-        requires count { CanCount self.old.running.state.served self.old.running.state.tally (W.failure_count wire.old) self.old.running.state.left }
+        requires count { CanGoOn self.old.running.state (W.failure_count wire.old) }
         ensures serves { (c : Configuration) → self.old.running.origin ≡ origin_of c →
             let before = hold (stage_of Q.recorded c self.old.running (L.held log.old) (W.calls wire.old)) self.old.waiting in
             (d : Configuration) × (text : List ℕ) × (self.new.running.origin ≡ origin_of d)
@@ -256,8 +256,9 @@ impl<K: StateKeeper, Q: Requests, M: Store + Drop> HoldingRun<K, Q, M> {
         }
     }
 
-    /// Serves a wire for the turns that are left, as [`Running::serve`] does, but that it goes on if the log fails: what the log lacks waits, in
-    /// order, and what is denied is withheld until it is written. It is tried to be written after each tick, and once more at the end.
+    /// Serves a wire for the turns that are left, as [`Running::serve`] does, but that it goes on if the log fails: what the log
+    /// lacks waits, in order, and what is denied is withheld until it is written. It is tried to be written after each tick, and
+    /// once more at the end.
     ///
     /// # Errors
     ///
@@ -270,7 +271,7 @@ impl<K: StateKeeper, Q: Requests, M: Store + Drop> HoldingRun<K, Q, M> {
         errors: &mut E,
         schedule: &Schedule,
     ) -> Result<RunEnd, ServeFault>
-        requires count { CanCount self.old.running.state.served self.old.running.state.tally (W.failure_count wire.old) self.old.running.state.left }
+        requires count { CanGoOn self.old.running.state (W.failure_count wire.old) }
         ensures runs { (c : Configuration) → self.old.running.origin ≡ origin_of c →
             let before = hold (stage_of Q.recorded c self.old.running (L.held log.old) (W.calls wire.old)) self.old.waiting in
             (d : Configuration) × (text : List ℕ) × (self.new.running.origin ≡ origin_of d)
@@ -297,16 +298,17 @@ impl<K: StateKeeper, Q: Requests, M: Store + Drop> HoldingRun<K, Q, M> {
         errors: &mut E,
         schedule: &Schedule,
     ) -> Result<RunEnd, ServeFault>
-        requires count { CanCount self.old.running.state.served self.old.running.state.tally (W.failure_count wire.old) self.old.running.state.left }
+        requires count { CanGoOn self.old.running.state (W.failure_count wire.old) }
         requires untold { self.old.running.said ≡ no_troubles }
         requires none { self.old.waiting ≡ [] }
         ensures runs { (c : Configuration) → self.old.running.origin ≡ origin_of c →
             let how = reporting_by schedule.now in
-            let before = stage_of Q.recorded c (record self.old.running { said = K.conduct.troubles self.old.running.keeper.keeper }) (L.held log.old) (W.calls wire.old) in
+            let before = stage_of Q.recorded c (record self.old.running { said = K.conduct.troubles self.old.running.keeper.keeper })
+            (L.held log.old) (W.calls wire.old) in
             let after = ends (L.held log.new) (W.calls wire.new) in
             (text : List ℕ) × RunsFromHolding (holding_manner K.Passes K.conduct how)
-            (end_stats (λ h. K.conduct.unkept h.keeper) (more_holding K.conduct.more) how) how.start self.old.running.state.left before result after
-            (rest self.new.running.keeper (Q.recorded self.new.running.requests)) text
+            (end_stats (λ h. K.conduct.unkept h.keeper) (more_holding K.conduct.more) how) how.start
+            self.old.running.state.left before result after (rest self.new.running.keeper (Q.recorded self.new.running.requests)) text
             × (E.NeverFails errors.old → Appends (E.held errors.old) (E.held errors.new) text) }
         ensures lasts { E.NeverFails errors.old → E.NeverFails errors.new }
     {

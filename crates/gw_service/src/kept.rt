@@ -433,7 +433,8 @@ fn run_on<
 ) -> Result<(), ServiceFault>
     requires failures { X.failure_count sockets.old < 2 ^ 127 }
     ensures ran { (text : List ℕ) × LeavesKept (given S.held Q.recorded T.held ready.entry.before) ready.entry.config
-        (service_by ready.entry.options.now) (ends (L.held log.old) (X.calls sockets.old)) (ends (L.held log.new) (X.calls sockets.new)) text result
+        (service_by ready.entry.options.now) (ends (L.held log.old) (X.calls sockets.old))
+        (ends (L.held log.new) (X.calls sockets.new)) text result
         × (E.NeverFails errors.old → Appends (E.held errors.old) (E.held errors.new) text) }
     ensures lasting { E.NeverFails errors.old → E.NeverFails errors.new }
 {

@@ -25,14 +25,16 @@ use gw_wire::Store;
 /// they stay.
 pub fn rules_are_in_force<K: StateKeeper>()
     ensures chain { (start : Counts) (report status : K → ReloadCounts → Announcing → Option ℕ → State → Served → DropTally → List ℕ) →
-        RulesAreInForce (manner K.Passes K.conduct.Ticks K.conduct.Adopts K.conduct.troubles report status (meters_by start) K.conduct.Lasts) }
+        RulesAreInForce (manner K.Passes K.conduct.Ticks K.conduct.Adopts K.conduct.troubles report status
+        (meters_by start) K.conduct.Lasts) }
     ensures stretch { RulesStay }
 {}
 
 /// The checksum that metrics show is that of the configuration in force: wherever a run leads, it is the one of a text of that.
 pub fn checksum_is_in_force<K: StateKeeper>()
     ensures { (start : Counts) (report status : K → ReloadCounts → Announcing → Option ℕ → State → Served → DropTally → List ℕ) →
-        ChecksumIsInForce (manner K.Passes K.conduct.Ticks K.conduct.Adopts K.conduct.troubles report status (meters_by start) K.conduct.Lasts) }
+        ChecksumIsInForce (manner K.Passes K.conduct.Ticks K.conduct.Adopts K.conduct.troubles report status
+        (meters_by start) K.conduct.Lasts) }
 {}
 
 /// No number of a denial is used twice: a gateway that begins with a state goes on after the number of the denial that its log shows
@@ -60,7 +62,9 @@ pub fn nobody_asks<K: StateKeeper>()
         NobodyAsks (manner K.Passes K.conduct.Ticks K.conduct.Adopts K.conduct.troubles report status (meters_by start) K.conduct.Lasts) }
 {}
 
-/// A run that neither keeps a state nor looks for requests, of a configuration that announces nothing, is one of [`serve`](gw_turns::serve) but for what it reports: the log, the calls of the wire and the outcome are those of serving from the gateway's first state.
+/// A run that neither keeps a state nor looks for requests, of a configuration that announces nothing, is one of
+/// [`serve`](gw_turns::serve) but for what it reports: the log, the calls of the wire and the outcome are those of serving from the
+/// gateway's first state.
 pub fn as_served<S: Store + Drop, Q: Requests + Drop, L: OctetSink + Drop>()
     ensures { (given : Given S Q L) → IsAsServed given }
 {}

@@ -7,9 +7,9 @@ ghost use Rattle.std.specs.Io.KnownBytes.{Appends, Keeps};
 ghost use Rattle.gw_configuration.specs.Configuration.{Configuration};
 ghost use Rattle.gw_state.specs.Saved.{origin_of};
 ghost use Rattle.gw_turns.specs.Serve.{scene};
-ghost use Rattle.gw_turns.specs.Stretch.{CanCount, moment};
+ghost use Rattle.gw_turns.specs.Stretch.{moment};
 ghost use Rattle.gw_system.specs.Requests.{Asking, GoesOn, IsAsking, answered, asked, text_found};
-ghost use Rattle.gw_service.specs.Chain.{Advances, AtTick, FailsToLast, IsLooked, IsNotedWith, Link, Looks, Runs, WasLasting, chain_text, edge, end_of, stage, standing};
+ghost use Rattle.gw_service.specs.Chain.{Advances, AtTick, CanGoOn, FailsToLast, IsLooked, IsNotedWith, Link, Looks, Runs, WasLasting, chain_text, edge, end_of, stage, standing};
 ghost use Rattle.gw_notices.specs.Notices.{no_troubles, notice_of, stop_line};
 ghost use Rattle.gw_notices.specs.Reload.{refusal_line};
 ghost use Rattle.gw_service.specs.Holding.{holding_of, stage_of};
@@ -258,9 +258,10 @@ impl<K: StateKeeper, Q: Requests, M: Store + Drop> Running<K, Q, M> {
         self.look(schedule, log, errors)
     }
 
-    /// Serves a stretch of at most the turns that are left, and does what is due after it: after a tick it makes the log last first, and then
-    /// does also what is to be announced. If another tick is due already, what is due is left to that one. It answers how the run
-    /// ends, if it is to stop, or the log can't be made to last; then nothing else is done. Faults: those of serving.
+    /// Serves a stretch of at most the turns that are left, and does what is due after it: after a tick it makes the log last
+    /// first, and then does also what is to be announced. If another tick is due already, what is due is left to that one. It
+    /// answers how the run ends, if it is to stop, or the log can't be made to last; then nothing else is done. Faults: those of
+    /// serving.
     pub(crate) fn advance<W: Wire, L: Notes, E: OctetSink>(
         &mut self,
         wire: &mut W,
@@ -268,7 +269,7 @@ impl<K: StateKeeper, Q: Requests, M: Store + Drop> Running<K, Q, M> {
         errors: &mut E,
         schedule: &Schedule,
     ) -> Result<Option<RunEnd>, ServeFault>
-        requires count { CanCount self.old.state.served self.old.state.tally (W.failure_count wire.old) self.old.state.left }
+        requires count { CanGoOn self.old.state (W.failure_count wire.old) }
         ensures advances { (c : Configuration) → self.old.origin ≡ origin_of c →
             let before = stage_of Q.recorded c self.old (L.held log.old) (W.calls wire.old) in
             (d : Configuration) × (text : List ℕ) × (self.new.origin ≡ origin_of d)
@@ -278,7 +279,7 @@ impl<K: StateKeeper, Q: Requests, M: Store + Drop> Running<K, Q, M> {
             self.new.state.unwritten.items)
             × (E.NeverFails errors.old → Appends (E.held errors.old) (E.held errors.new) text) }
         ensures left { self.new.state.served.turns + self.new.state.left ≡ self.old.state.served.turns + self.old.state.left }
-        ensures rest { CanCount self.new.state.served self.new.state.tally (W.failure_count wire.new) self.new.state.left }
+        ensures rest { CanGoOn self.new.state (W.failure_count wire.new) }
         ensures more { 0 < self.old.state.left → self.old.state.served.turns < self.new.state.served.turns }
         ensures asking { result ≡ Ok (Some RunEnd.Stopped) → IsAsking (Q.recorded self.new.requests) }
         ensures lasts { E.NeverFails errors.old → E.NeverFails errors.new }
@@ -321,10 +322,11 @@ impl<K: StateKeeper, Q: Requests, M: Store + Drop> Running<K, Q, M> {
         }
     }
 
-    /// Serves a wire for the turns that are left, by stretches. After each tick behind which no other is due already the log is made to last,
-    /// and nothing more is served if it can't be; the keeper does what is due, and a request is looked for; if there is one to read the configuration again, that is done, and the gateway goes on by it, or as it is; after one to
-    /// stop nothing more is served. If an announcement is due, it is made then. It reports as the schedule asks, and its metrics
-    /// are put into their store when that is due.
+    /// Serves a wire for the turns that are left, by stretches. After each tick behind which no other is due already the log is
+    /// made to last, and nothing more is served if it can't be; the keeper does what is due, and a request is looked for; if there
+    /// is one to read the configuration again, that is done, and the gateway goes on by it, or as it is; after one to stop nothing
+    /// more is served. If an announcement is due, it is made then. It reports as the schedule asks, and its metrics are put into
+    /// their store when that is due.
     ///
     /// # Errors
     ///
@@ -336,7 +338,7 @@ impl<K: StateKeeper, Q: Requests, M: Store + Drop> Running<K, Q, M> {
         errors: &mut E,
         schedule: &Schedule,
     ) -> Result<RunEnd, ServeFault>
-        requires count { CanCount self.old.state.served self.old.state.tally (W.failure_count wire.old) self.old.state.left }
+        requires count { CanGoOn self.old.state (W.failure_count wire.old) }
         ensures runs { (c : Configuration) → self.old.origin ≡ origin_of c →
             let before = stage_of Q.recorded c self.old (L.held log.old) (W.calls wire.old) in
             (d : Configuration) × (links : List Link) × (self.new.origin ≡ origin_of d)
@@ -411,7 +413,8 @@ impl<K: StateKeeper, Q: Requests, M: Store + Drop> Running<K, Q, M> {
             let last = stage c (moment (scene self.old.gateway log calls) self.old.keeper self.old.state.served self.old.state.tally)
             (Q.recorded self.old.requests) self.old.counts self.old.announcing self.old.said (metered self.old.metrics) in
             let how = reporting_by schedule.now in
-            (text : List ℕ) × EndsRun (manner_by K.Passes K.conduct how) (end_stats K.conduct.unkept K.conduct.more how) how.start answer last (rest self.new.keeper (Q.recorded self.new.requests)) text
+            (text : List ℕ) × EndsRun (manner_by K.Passes K.conduct how)
+            (end_stats K.conduct.unkept K.conduct.more how) how.start answer last (rest self.new.keeper (Q.recorded self.new.requests)) text
             × (E.NeverFails errors.old → Appends (E.held errors.old) (E.held errors.new) text) }
         ensures lasts { E.NeverFails errors.old → E.NeverFails errors.new }
     {
@@ -438,15 +441,17 @@ impl<K: StateKeeper, Q: Requests, M: Store + Drop> Running<K, Q, M> {
         errors: &mut E,
         schedule: &Schedule,
     ) -> Result<RunEnd, ServeFault>
-        requires count { CanCount self.old.state.served self.old.state.tally (W.failure_count wire.old) self.old.state.left }
+        requires count { CanGoOn self.old.state (W.failure_count wire.old) }
         requires untold { self.old.said ≡ no_troubles }
         ensures runs { (c : Configuration) → self.old.origin ≡ origin_of c →
             let before = stage c (moment (scene self.old.gateway (L.held log.old) (W.calls wire.old)) self.old.keeper
-            self.old.state.served self.old.state.tally) (Q.recorded self.old.requests) self.old.counts self.old.announcing (K.conduct.troubles self.old.keeper) (metered self.old.metrics) in
+            self.old.state.served self.old.state.tally) (Q.recorded self.old.requests) self.old.counts self.old.announcing
+            (K.conduct.troubles self.old.keeper) (metered self.old.metrics) in
             let how = reporting_by schedule.now in
             let after = ends (L.held log.new) (W.calls wire.new) in
             (text : List ℕ) × RunsFrom (manner_by K.Passes K.conduct how)
-            (end_stats K.conduct.unkept K.conduct.more how) how.start self.old.state.left before result after (rest self.new.keeper (Q.recorded self.new.requests)) text
+            (end_stats K.conduct.unkept K.conduct.more how) how.start self.old.state.left before result after
+            (rest self.new.keeper (Q.recorded self.new.requests)) text
             × (E.NeverFails errors.old → Appends (E.held errors.old) (E.held errors.new) text) }
         ensures lasts { E.NeverFails errors.old → E.NeverFails errors.new }
     {

@@ -73,7 +73,8 @@ fn serve_stamped<H: Host, W: Write + Drop, E: OctetSink>(
     ensures served { (said : List ℕ)
         × LeavesService (whole_with_stamps {C = H.Calendar}
         (whole_of (H.offers host.old) (H.Closes host.new) H.Log.held H.Sockets.calls H.StateStore.held H.Reloads.recorded))
-        order.entry.options.now (writer_contents W.contents output.old) (writer_contents W.contents output.new) order.entry.edition said result
+        order.entry.options.now (writer_contents W.contents output.old)
+        (writer_contents W.contents output.new) order.entry.edition said result
         × (E.NeverFails errors.old → Appends (E.held errors.old) (E.held errors.new) said) }
     ensures lasting { E.NeverFails errors.old → E.NeverFails errors.new }
     ensures flush { OnOk result (IsFlushedFor (option_map string_bytes order.entry.options.now.log)
@@ -103,7 +104,8 @@ pub fn serve_run<H: Host, W: Write + Drop, E: OctetSink>(
     ensures served { (said : List ℕ)
         × LeavesTimed (timed_machine {C = H.Calendar}
         (whole_of (H.offers host.old) (H.Closes host.new) H.Log.held H.Sockets.calls H.StateStore.held H.Reloads.recorded))
-        order.entry.options.now (writer_contents W.contents output.old) (writer_contents W.contents output.new) order.entry.edition said result
+        order.entry.options.now (writer_contents W.contents output.old)
+        (writer_contents W.contents output.new) order.entry.edition said result
         × (E.NeverFails errors.old → Appends (E.held errors.old) (E.held errors.new) said) }
     ensures lasting { E.NeverFails errors.old → E.NeverFails errors.new }
     ensures flush { OnOk result (IsFlushedFor (option_map string_bytes order.entry.options.now.log)
