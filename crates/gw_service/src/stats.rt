@@ -5,8 +5,7 @@ ghost use Rattle.std.specs.Prelude.{◌≡◌, ◌-◌, ◌/◌, ◌%◌, ◌==�
 ghost use Rattle.std.specs.Io.KnownBytes.{Appends};
 ghost use Rattle.gw_service.specs.Metering.{lost_by, metered};
 ghost use Rattle.gw_service.specs.Metrics.{measures_of};
-ghost use Rattle.gw_service.specs.Scheduled.{reporting_by};
-ghost use Rattle.gw_service.specs.Stats.{all_stats, due_stats, end_stats, ends_hour, is_due, minute_text, stats_text, tries_text, troubles_text, whole, with_rules};
+ghost use Rattle.gw_service.specs.Stats.{all_stats, due_stats, end_stats, ends_hour, is_due, minute_text, reporting, stats_text, tries_text, troubles_text, whole, with_rules};
 
 use crate::keeping::StateKeeper;
 use crate::metrics::{Measures, lost_of};
@@ -82,7 +81,8 @@ fn write_troubles<E: OctetSink>(
 impl Schedule {
     /// The same schedule, of the whole time, with how many asks each rule decided.
     fn whole(&self) -> Schedule
-        ensures { reporting_by result ≡ whole (reporting_by self.now) }
+        ensures { reporting result.seconds result.rules result.start result.keeps result.reloads result.verbose
+            ≡ whole (reporting self.now.seconds self.now.rules self.now.start self.now.keeps self.now.reloads self.now.verbose) }
     {
         Schedule {
             start: self.start,
@@ -96,7 +96,8 @@ impl Schedule {
 
     /// The same schedule, where each report says how many asks each rule decided, or doesn't.
     fn with_rules(&self, rules: bool) -> Schedule
-        ensures { reporting_by result ≡ with_rules (reporting_by self.now) rules }
+        ensures { reporting result.seconds result.rules result.start result.keeps result.reloads result.verbose
+            ≡ with_rules (reporting self.now.seconds self.now.rules self.now.start self.now.keeps self.now.reloads self.now.verbose) rules }
     {
         Schedule {
             start: self.start,
@@ -116,7 +117,8 @@ impl Schedule {
         running: &Running<K, Q, M>,
         errors: &mut E,
     ) -> Result<(), WriteFailed>
-        ensures ok { let how = reporting_by self.now in
+        ensures ok { let how = reporting self.now.seconds self.now.rules self.now.start
+            self.now.keeps self.now.reloads self.now.verbose in
             OnOk result (Appends (E.held errors.old) (E.held errors.new)
             (tries_text K.conduct.unkept K.conduct.more how running.now.keeper running.now.counts running.now.announcing
             (lost_by (metered running.now.metrics)) running.now.gateway)) }
@@ -139,7 +141,8 @@ impl Schedule {
         running: &Running<K, Q, M>,
         errors: &mut E,
     ) -> Result<(), WriteFailed>
-        ensures ok { let how = reporting_by self.now in
+        ensures ok { let how = reporting self.now.seconds self.now.rules self.now.start
+            self.now.keeps self.now.reloads self.now.verbose in
             OnOk result (Appends (E.held errors.old) (E.held errors.new)
             (stats_text how running.now.gateway running.now.state.served running.now.state.tally
             (tries_text K.conduct.unkept K.conduct.more how running.now.keeper running.now.counts running.now.announcing
@@ -164,7 +167,8 @@ impl Schedule {
         &self,
         running: &Running<K, Q, M>,
     ) -> Result<Vec<u8>, WriteFailed>
-        ensures { let how = reporting_by self.now in
+        ensures { let how = reporting self.now.seconds self.now.rules self.now.start
+            self.now.keeps self.now.reloads self.now.verbose in
             IfOk result (λ text. text.items ≡ all_stats K.conduct.unkept K.conduct.more how running.now.keeper running.now.counts
             running.now.announcing (lost_by (metered running.now.metrics)) running.now.gateway
             running.now.state.served running.now.state.tally) }
@@ -200,7 +204,8 @@ impl Schedule {
 
     /// Writes what was dropped and on which ports sends fail in the last minute, if the run is verbose and a full one has passed.
     fn report_minute<E: OctetSink>(&self, gateway: &Gateway, state: &ServeState, errors: &mut E)
-        ensures said { let how = reporting_by self.now in
+        ensures said { let how = reporting self.now.seconds self.now.rules self.now.start
+            self.now.keeps self.now.reloads self.now.verbose in
             E.NeverFails errors.old → Appends (E.held errors.old) (E.held errors.new)
             (minute_text how gateway.now state.now.served state.now.tally) }
         ensures lasts { E.NeverFails errors.old → E.NeverFails errors.new }
@@ -217,7 +222,8 @@ impl Schedule {
         running: &Running<K, Q, M>,
         errors: &mut E,
     )
-        ensures said { let how = reporting_by self.now in
+        ensures said { let how = reporting self.now.seconds self.now.rules self.now.start
+            self.now.keeps self.now.reloads self.now.verbose in
             E.NeverFails errors.old → Appends (E.held errors.old) (E.held errors.new)
             (due_stats K.conduct.unkept K.conduct.more how running.now.keeper running.now.counts running.now.announcing
             (lost_by (metered running.now.metrics)) running.now.gateway running.now.state.served running.now.state.tally) }
@@ -242,7 +248,8 @@ impl Schedule {
         running: &Running<K, Q, M>,
         errors: &mut E,
     )
-        ensures said { let how = reporting_by self.now in
+        ensures said { let how = reporting self.now.seconds self.now.rules self.now.start
+            self.now.keeps self.now.reloads self.now.verbose in
             E.NeverFails errors.old → Appends (E.held errors.old) (E.held errors.new)
             (end_stats K.conduct.unkept K.conduct.more how running.now.keeper running.now.counts running.now.announcing
             (lost_by (metered running.now.metrics)) running.now.gateway running.now.state.served running.now.state.tally) }
