@@ -1,5 +1,6 @@
 -- What is answered to a request to a running gateway, how that ends, and what `reload` does before it.
-use Rattle.std.specs.Prelude.{◌≡◌, ℕ, Bool, true, false, List, [], Option, Some, None, Result, Ok, Err, codes, nat_eq, if◌then◌else◌, string_bytes}
+use Rattle.std.specs.Prelude.{◌≡◌, ℕ, Bool, true, false, List, [], Option, Some, None, Result, Ok, Err}
+use Rattle.std.specs.Prelude.{codes, nat_eq, if◌then◌else◌, string_bytes}
 use Rattle.std.specs.List.{starts_with}
 use Rattle.gw_ask_sets.specs.assertions.Judging.{AreJudged}
 use Rattle.gw_ask_sets.specs.declared.assertions.judging.Judged.{Judged}

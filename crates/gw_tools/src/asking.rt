@@ -22,8 +22,8 @@ use gw_verdicts::asks::{AskLines, Lent};
 use std::alloc::{AllocError, Global};
 use std::io::{BufWriter, Write};
 
-/// Answers each ask that `reader` has left by the rules of a configuration, with the places of their tables and their notes. What was written is flushed
-/// at every outcome. Faults: those of the answers, and `Write` also where the flush alone fails.
+/// Answers each ask that `reader` has left by the rules of a configuration, with the places of their tables and their notes. What was
+/// written is flushed at every outcome. Faults: those of the answers, and `Write` also where the flush alone fails.
 fn why<R: OctetSource, W: Write + Drop>(
     alloc: Global,
     placed: &Placed,

@@ -5,7 +5,8 @@ ghost use Rattle.std.specs.Io.KnownBytes.{Appends};
 ghost use Rattle.gw_ending.specs.declared.fault.Fault.TheVariants as fault;
 ghost use Rattle.gw_policy_review.specs.comparison.Comparing.{IsUnderWay};
 ghost use Rattle.gw_policy_review.specs.comparison.Comparison.{manner_of};
-ghost use Rattle.gw_tools.specs.Comparing.{AreProgress, IsCompared, IsComparedBehind, ReportsProgress, SaysCompared, outcome_of_comparison, progress_line};
+ghost use Rattle.gw_tools.specs.Comparing.{AreProgress, IsCompared, IsComparedBehind, ReportsProgress, SaysCompared};
+ghost use Rattle.gw_tools.specs.Comparing.{outcome_of_comparison, progress_line};
 ghost use Rattle.gw_tools.specs.Saying.{SaysOfBoth};
 
 use crate::asserting::put_assertions;

@@ -8,7 +8,8 @@ ghost use Rattle.gw_policy_review.specs.comparison.PairLines.{known_of};
 ghost use Rattle.gw_report.specs.points.Points.{points_text};
 ghost use Rattle.gw_ending.specs.reading.Files.{result_map};
 ghost use Rattle.gw_tools.specs.Comparing.{SaysCompared};
-ghost use Rattle.gw_tools.specs.Json.{AreComparisonLines, FaultLine, IsFaultLine, IsMade, IsPartsLine, IsTextOf, SaysCheckedInJson, SaysConfigInJson, judged_line};
+ghost use Rattle.gw_tools.specs.Json.{AreComparisonLines, FaultLine, IsFaultLine, IsMade, IsPartsLine, IsTextOf};
+ghost use Rattle.gw_tools.specs.Json.{SaysCheckedInJson, SaysConfigInJson, judged_line};
 ghost use Rattle.gw_tools.specs.Saying.{SaysMade, SaysOf, SaysOfBoth};
 
 use crate::asserting::put_assertions;
