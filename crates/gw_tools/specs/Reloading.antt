@@ -105,21 +105,21 @@ ShowsChange Answers request text most held mid reported old new said =
 
 -- That, if the new one is held so; and nothing is printed or reported if its assertions don't hold, or if there is no old one.
 abbrev pub ShowsHeld : Replying → (request text : List ℕ) → (most : ℕ) → (held mid : Option (List ℕ)) → (reported : List ℕ)
-    → Result Placed Fault → Placed → Result (Option Said) Fault → Result Said Fault → Type 0
-ShowsHeld Answers request text most held mid reported (Ok old) new (Ok None) said =
+    → Result (Option Said) Fault → Result Placed Fault → Placed → Result Said Fault → Type 0
+ShowsHeld Answers request text most held mid reported (Ok None) (Ok old) new said =
     ShowsChange Answers request text most held mid reported old new said
-ShowsHeld Answers request text most held mid reported (Err f) new (Ok None) said =
+ShowsHeld Answers request text most held mid reported (Ok None) (Err f) new said =
     (said ≡ Err (of_other f)) × (mid ≡ held) × (reported ≡ [])
-ShowsHeld Answers request text most held mid reported old new (Ok (Some refused)) said =
+ShowsHeld Answers request text most held mid reported (Ok (Some refused)) old new said =
     (said ≡ Ok refused) × (mid ≡ held) × (reported ≡ [])
-ShowsHeld Answers request text most held mid reported old new (Err f) said = (said ≡ Err f) × (mid ≡ held) × (reported ≡ [])
+ShowsHeld Answers request text most held mid reported (Err f) old new said = (said ≡ Err f) × (mid ≡ held) × (reported ≡ [])
 
 -- The same of two that were read, and of why there is no new one.
 abbrev pub ShowsReload : Replying → (request text : List ℕ) → (most : ℕ) → (held mid : Option (List ℕ)) → (reported : List ℕ)
     → (old new : Result Placed Fault) → Result Said Fault → Type 0
 ShowsReload Answers request text most held mid reported old (Ok new) said =
     (sound : Result (Option Said) Fault) × IsHeldTo new.config sound
-    × ShowsHeld Answers request text most held mid reported old new sound said
+    × ShowsHeld Answers request text most held mid reported sound old new said
 ShowsReload Answers request text most held mid reported old (Err f) said = (said ≡ Err f) × (mid ≡ held) × (reported ≡ [])
 
 -- ---- of files

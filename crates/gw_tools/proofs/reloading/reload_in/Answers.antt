@@ -36,8 +36,8 @@ returns-in-Some-clause-reloaded g c =
       shown.2,
     )
 
-pub returns-in-None-clause-reloaded : goal.returns-in-None-clause-reloaded
-returns-in-None-clause-reloaded g c =
+pub returns-clause-reloaded : goal.returns-clause-reloaded
+returns-clause-reloaded g c =
     let reads = g.F.ConfigFiles.Reads c.args.files.now in
     let answers = answers_by (g.M.Machine.Asks c.args.machine.now) g.M.Machine.Answers in
     let text = result_map (λ (octets : Vec ℕ). octets.items) c.read-text.result in
