@@ -70,7 +70,7 @@ returns-in_err-refused-clause-shown g c =
     let second : c.args.both.new ≡ Ok c.in_ok-new.new = search rules in (
       [],
       passes_on (shows c.args.both.old c.args.both.new) f c.from_residual-in_err-refused.result c.from_residual-in_err-refused.ensures
-          (subst (λ (r : Result Placed Fault). shows c.args.both.old r (Err f)) (sym second) (Err f, c.in_err-refused.ensures, refl, refl, refl)),
+          (subst (λ (r : Result Placed Fault). shows c.args.both.old r (Err f)) (sym second) (Err f, c.in_err-refused.ensures, (refl, refl, refl))),
       λ never. appends_nothing (g.E.OctetSink.held c.args.streams.now.errors),
     )
 
@@ -89,7 +89,7 @@ returns-in-Some-clause-shown g c =
     let sound : IsHeldTo new.config (Ok (Some refused)) =
     subst (λ (found : Option Said). IsHeldTo new.config (Ok found)) c.in-Some.is c.in_ok-refused.ensures in (
       [],
-      subst (λ (r : Result Placed Fault). shows c.args.both.old r (Ok refused)) (sym second) (Ok (Some refused), sound, refl, refl, refl),
+      subst (λ (r : Result Placed Fault). shows c.args.both.old r (Ok refused)) (sym second) (Ok (Some refused), sound, (refl, refl, refl)),
       λ never. appends_nothing (g.E.OctetSink.held c.args.streams.now.errors),
     )
 
@@ -111,6 +111,6 @@ returns-clause-shown g c =
     subst (λ (refused : Option Said). IsHeldTo new.config (Ok refused)) c.in_default.is c.in_ok-refused.ensures in (
       [],
       subst (λ (r : Result Placed Fault). shows r c.args.both.new said) (sym first)
-          (subst (λ (r : Result Placed Fault). shows (Err f) r said) (sym second) (Ok None, sound, ap Err c.of_other.ensures, refl, refl)),
+          (subst (λ (r : Result Placed Fault). shows (Err f) r said) (sym second) (Ok None, sound, (ap Err c.of_other.ensures, refl, refl))),
       λ never. appends_nothing (g.E.OctetSink.held c.args.streams.now.errors),
     )
