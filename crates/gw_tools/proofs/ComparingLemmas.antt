@@ -1,68 +1,15 @@
--- What a printed comparison leaves, from what is known of its text, and what is reported of it on the way.
+-- What is reported of a comparison on the way.
 use Rattle.std.proofs.Common.{◌≡◌, ◌≤◌, ◌<◌, ◌+◌, ◌∙◌, ◌++◌, [], ◌∷◌, ap, arith, length, refl, subst, sym, ℕ, Bool, true, false, List, Option, Result, Ok, Err}
 use Rattle.std.specs.Prelude.{if◌then◌else◌, nat_lt, IfOk}
 use Rattle.std.specs.Io.KnownBytes.{Appends}
 use Rattle.std.specs.List.{AllByRecursion, flat_map}
 use Rattle.std.proofs.lemmas.Bool.{both_ways, ltb-false, ltb-true}
 use Rattle.std.proofs.lemmas.Grind.{flat_map-append}
-use Rattle.std.specs.declared.alloc.AllocError.{AllocError}
-use Rattle.gw_policy_review.specs.declared.comparison.comparison.Compared.{Compared}
 use Rattle.gw_configuration.specs.Configuration.{Configuration}
 use Rattle.gw_policy_review.specs.comparison.Comparing.{IsUnderWay, Progress}
 use Rattle.gw_tools.specs.Comparing.{ArePassed, AreProgress, IsPassed, progress_line}
-use Rattle.gw_tools.specs.Program.{LeavesLines, LeavesSome}
-use Rattle.gw_tools.specs.declared.comparing.Lines.{Lines}
-use Rattle.gw_ending.specs.declared.fault.Fault.{Fault}
-use Rattle.gw_ending.specs.declared.fault.Fault.TheVariants as fault
 use Rattle.gw_notices.proofs.AppendLemmas.{appends_nothing, appends_two}
 use Rattle.gw_ending.proofs.reading_lemmas.AppendLemmas.{nothing_behind}
-
-module _ (Is : Compared → List ℕ → Type 0) (held holds : Option (List ℕ)) where
-  printed : (lines : Lines) (f : Fault) → Is lines.made lines.text.items → LeavesLines (Ok lines) held holds (Err f)
-      → LeavesSome Is held holds (Err f)
-  printed lines fault.Different is leaves = (lines.made, leaves.0, lines.text.items, is, leaves.1)
-  printed lines fault.OtherParts is leaves =
-      (lines.text.items, subst (λ (made : Compared). Is made lines.text.items) leaves.0 is, leaves.1)
-  printed lines fault.Write is leaves = (lines.made, lines.text.items, is, leaves)
-  printed lines fault.CommandLine is leaves = elim leaves [ ]
-  printed lines (fault.Unreadable _) is leaves = elim leaves [ ]
-  printed lines (fault.OtherUnreadable _) is leaves = elim leaves [ ]
-  printed lines (fault.LogUnreadable _) is leaves = elim leaves [ ]
-  printed lines (fault.Configuration _) is leaves = elim leaves [ ]
-  printed lines (fault.OtherConfiguration _) is leaves = elim leaves [ ]
-  printed lines (fault.Migration _) is leaves = elim leaves [ ]
-  printed lines (fault.Line _) is leaves = elim leaves [ ]
-  printed lines (fault.FlawedLine _ _) is leaves = elim leaves [ ]
-  printed lines fault.Read is leaves = elim leaves [ ]
-  printed lines fault.Log is leaves = elim leaves [ ]
-  printed lines (fault.Socket _) is leaves = elim leaves [ ]
-  printed lines fault.Memory is leaves = elim leaves [ ]
-  printed lines fault.CountEnd is leaves = elim leaves [ ]
-  printed lines (fault.StateUnreadable _) is leaves = elim leaves [ ]
-  printed lines (fault.State _) is leaves = elim leaves [ ]
-  printed lines (fault.Store _) is leaves = elim leaves [ ]
-  printed lines (fault.Trial _) is leaves = elim leaves [ ]
-  printed lines fault.Audit is leaves = elim leaves [ ]
-  printed lines (fault.Metrics _) is leaves = elim leaves [ ]
-  printed lines (fault.Request _) is leaves = elim leaves [ ]
-  printed lines fault.NoAnswer is leaves = elim leaves [ ]
-  printed lines fault.Refused is leaves = elim leaves [ ]
-  printed lines fault.TooManyAsks is leaves = elim leaves [ ]
-  printed lines fault.TooManyRules is leaves = elim leaves [ ]
-  printed lines fault.Unwritable is leaves = elim leaves [ ]
-  printed lines fault.Unlisted is leaves = elim leaves [ ]
-  printed lines fault.Broken is leaves = elim leaves [ ]
-  printed lines fault.NotAllowed is leaves = elim leaves [ ]
-
-  pub lines_leave : (lines : Result Lines AllocError) (outcome : Result (Unit {0}) Fault)
-      → IfOk lines (λ made. Is made.made made.text.items) → LeavesLines lines held holds outcome → LeavesSome Is held holds outcome
-  lines_leave (Ok lines) (Ok done) is leaves =
-      (lines.text.items, subst (λ (made : Compared). Is made lines.text.items) leaves.0 is, leaves.1)
-  lines_leave (Ok lines) (Err f) is leaves = printed lines f is leaves
-  lines_leave (Err refused) outcome is leaves =
-      subst (λ (o : Result (Unit {0}) Fault). LeavesSome Is held holds o) (sym leaves.0) leaves.1
-
--- ---- progress
 
 -- each of these lines is after at most so many steps
 abbrev pub UpTo : ℕ → List (ℕ × ℕ) → Type 0

@@ -1,5 +1,4 @@
 mod AssertingLemmas
-mod BeginningLemmas
 mod ChoiceLemmas
 mod ComparingLemmas
 mod CountLemmas

@@ -14,6 +14,8 @@ use Rattle.gw_configuration.specs.Configuration.{Configuration}
 use Rattle.gw_tools.specs.Asserting.{SaysAssertions}
 use Rattle.gw_ending.specs.declared.fault.Fault.{Fault}
 use Rattle.gw_ending.specs.declared.fault.Fault.TheVariants as fault
+use Rattle.gw_ending.specs.declared.reading.printing.Said.{Said}
+use Rattle.gw_tools.specs.Saying.{IsMemory, Says}
 use Rattle.gw_tools.specs.declared.comparing.Limits.{Limits}
 use Rattle.gw_tools.specs.declared.placed.Placed.{Placed}
 
@@ -70,3 +72,8 @@ outcome_of_comparison compared.OtherParts = Err fault.OtherParts
 outcome_of_comparison compared.Different = Err fault.Different
 outcome_of_comparison compared.Paired = Err fault.Different
 outcome_of_comparison compared.Unfinished = Err fault.Different
+
+-- what is said of a comparison of which this is true: it says how the command ends; or memory ran out
+abbrev pub SaysCompared : (Is : Compared → List ℕ → Type 0) → Result Said Fault → Type 0
+SaysCompared Is said =
+    Says (λ text ends. (made : Compared) × Is made text × (ends ≡ outcome_of_comparison made)) IsMemory said

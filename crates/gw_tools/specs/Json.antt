@@ -22,7 +22,9 @@ use Rattle.gw_ask_sets.specs.declared.regions.comparison.Found.{Found}
 use Rattle.gw_ending.specs.reading.Assertions.{do_hold}
 use Rattle.gw_ending.specs.declared.fault.Fault.{Fault}
 use Rattle.gw_ending.specs.declared.fault.Fault.TheVariants as fault
+use Rattle.gw_ending.specs.declared.reading.printing.Said.{Said}
 use Rattle.gw_tools.specs.Asserting.{SaysAssertions}
+use Rattle.gw_tools.specs.Checked.{SaysJudged, SaysOfText}
 
 -- a text that was made, or memory was refused for it
 abbrev pub IsMade : List ℕ → Result (List ℕ) Fault → Type 0
@@ -49,6 +51,14 @@ IsFaultLine text f line =
 abbrev pub FaultLine : Result (List ℕ) Fault → Fault → List ℕ → Type 0
 FaultLine (Ok text) (fault.Configuration f) line = IsFaultLine text f line
 FaultLine _ _ line = line ≡ []
+
+-- what is said of a configuration
+abbrev pub SaysConfigInJson : Configuration → Result Said Fault → Type 0
+SaysConfigInJson c said = SaysJudged (λ judged line. line ≡ judged_line c judged) c said
+
+-- and of a text that was read, or of why none was
+abbrev pub SaysCheckedInJson : Result (List ℕ) Fault → Result Said Fault → Type 0
+SaysCheckedInJson text said = SaysOfText SaysConfigInJson (FaultLine text) text said
 
 -- ---- `compare`
 

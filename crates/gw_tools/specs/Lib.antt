@@ -13,6 +13,8 @@ pub mod Program
 pub mod Questioning
 pub mod Reloading
 pub mod Reporting
+pub mod Rewritten
+pub mod Saying
 pub mod Suggesting
 pub mod Translating
 pub mod Unread

@@ -25,9 +25,3 @@ abbrev pub IsPageOf : (ReadsLog : List ℕ → Result (Option (List ℕ)) Fault 
     → Result (List ℕ) Fault → Type 0
 IsPageOf ReadsLog None p made = IsPageAlone p made
 IsPageOf ReadsLog (Some log) p made = (opened : Result (Option (List ℕ)) Fault) × ReadsLog log opened × IsPageWith p opened made
-
--- what is made of the configuration that was read, or of why there is none
-abbrev pub IsReported : (ReadsLog : List ℕ → Result (Option (List ℕ)) Fault → Type 0) → Option (List ℕ)
-    → Result Placed Fault → Result (List ℕ) Fault → Type 0
-IsReported ReadsLog log (Ok p) made = IsPageOf ReadsLog log p made
-IsReported ReadsLog log (Err f) made = made ≡ Err f

@@ -5,8 +5,8 @@ ghost use Rattle.std.specs.Io.Buffered.{writer_buffer, writer_contents};
 ghost use Rattle.std.specs.Io.KnownBytes.{Appends};
 ghost use Rattle.gw_script.specs.Known.{OnKnown};
 ghost use Rattle.gw_tools.specs.Asking.{Answers, Counts, ReportsUnread, asks_in};
-ghost use Rattle.gw_ending.specs.reading.Files.{result_map};
-ghost use Rattle.gw_tools.specs.Program.{LeavesAnswered, LeavesAnsweredIn, LeavesCounts};
+ghost use Rattle.gw_tools.specs.Program.{LeavesAnswered, LeavesAnsweredIn};
+ghost use Rattle.gw_tools.specs.Saying.{SaysMade};
 ghost use Rattle.gw_verdicts.specs.Why.{said_text};
 ghost use Rattle.gw_decisions.specs.tally.Tally.{tally_text};
 
@@ -14,7 +14,7 @@ use crate::lines::first_lines_fault;
 use crate::placed::{Placed, placed_in};
 use crate::unread::report_unread;
 use gw_decisions::tally::{Tally, count_asks, put_tally};
-use gw_ending::reading::{ConfigFiles, print_made};
+use gw_ending::reading::{ConfigFiles, Said, print_said};
 use gw_ending::{Fault, Streams};
 use gw_rules::RuleList;
 use gw_script::{OctetSink, OctetSource};
@@ -22,9 +22,9 @@ use gw_verdicts::asks::{AskLines, Lent};
 use std::alloc::{AllocError, Global};
 use std::io::{BufWriter, Write};
 
-/// Answers each ask that `reader` has left by the rules of a configuration, with the places of their tables and their notes. What was written is flushed
-/// at every outcome. Faults: those of the answers, and `Write` also where the flush alone fails.
-pub fn why<R: OctetSource, W: Write + Drop>(
+/// Answers each ask that `reader` has left by the rules of a configuration, with the places of their tables and their notes. What was
+/// written is flushed at every outcome. Faults: those of the answers, and `Write` also where the flush alone fails.
+fn why<R: OctetSource, W: Write + Drop>(
     alloc: Global,
     placed: &Placed,
     reader: &mut R,
@@ -40,18 +40,17 @@ pub fn why<R: OctetSource, W: Write + Drop>(
     first_lines_fault(answers, is_flushed)
 }
 
-/// How many of the asks that `reader` has left each of these rules decides, in lines. Faults: `Line` with the first
-/// that says no ask, `Read`, and `Memory`.
-pub fn count<R: OctetSource>(
+/// What `why --count` says of the asks that `reader` has left: how many of them each of these rules decides, in lines. Faults: `Line`
+/// with the first that says no ask, `Read`, and `Memory`.
+fn count<R: OctetSource>(
     alloc: Global,
     rules: &RuleList,
     reader: &mut R,
-) -> Result<Vec<u8>, Fault>
-    ensures { (text : List ℕ) → R.left reader.old ≡ Some text →
-        Counts rules.now text (result_map (λ octets. octets.items) result) }
+) -> Result<Said, Fault>
+    ensures { (text : List ℕ) → R.left reader.old ≡ Some text → SaysMade (Counts rules.now text) result }
 {
     match count_asks(alloc, rules, reader) {
-        Ok(tally) => Ok(tally_lines(alloc, rules, &tally)?),
+        Ok(tally) => Ok(Said::well(tally_lines(alloc, rules, &tally)?)),
         Err(fault) => Err(Fault::from(fault)),
     }
 }
@@ -79,24 +78,10 @@ fn answer<R: OctetSource, W: Write + Drop>(
 {
     let placed = placed?;
     if counts {
-        print_counts(alloc, placed.config.rules(), input, output)
+        print_said(count(alloc, placed.config.rules(), input), output)
     } else {
         why(alloc, &placed, input, output)
     }
-}
-
-/// Prints how many asks of standard input each rule decides.
-fn print_counts<R: OctetSource, W: Write + Drop>(
-    alloc: Global,
-    rules: &RuleList,
-    input: &mut R,
-    output: &mut BufWriter<W>,
-) -> Result<(), Fault>
-    ensures output { (text : List ℕ) → R.left input.old ≡ Some text → LeavesCounts rules.now text
-        (writer_contents W.contents output.old) (writer_contents W.contents output.new) result }
-    ensures flush { OnOk result (writer_buffer output.new ≡ []) }
-{
-    print_made(count(alloc, rules, input), output)
 }
 
 /// Answers the asks that standard input shows, whatever is in front of them, and reports how many lines show none.

@@ -2,7 +2,8 @@
 
 ghost use Rattle.std.specs.Prelude.{◌≡◌, ◌++◌, find, option_copied, OnOk};
 ghost use Rattle.std.specs.List.{flat_map};
-ghost use Rattle.gw_tools.specs.Asserting.{AreFateTexts, IsFate, IsFateText, SaysAssertions, TellsFates, fate_text, gone_text, is_named, named, told};
+ghost use Rattle.gw_tools.specs.Asserting.{AreFateTexts, IsFate, IsFateText, SaysAssertions, TellsFates, fate_text};
+ghost use Rattle.gw_tools.specs.Asserting.{gone_text, is_named, named, told};
 
 use gw_ask_sets::assertions::{JUDGING_STEPS, judge};
 use gw_configuration::sameness::Same;

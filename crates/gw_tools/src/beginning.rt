@@ -1,19 +1,17 @@
 //! A configuration to begin with.
 
-ghost use Rattle.std.specs.Prelude.{◌≡◌, ℕ, List, [], OnOk};
-ghost use Rattle.std.specs.Io.Buffered.{writer_buffer, writer_contents};
+ghost use Rattle.std.specs.Prelude.{◌≡◌, ℕ, List};
 ghost use Rattle.std.specs.Io.KnownBytes.{Appends};
 ghost use Rattle.gw_policy_drafts.specs.beginning.Site.{site_text};
-ghost use Rattle.gw_tools.specs.Beginning.{LeavesBegun, text_of};
+ghost use Rattle.gw_tools.specs.Beginning.{SaysBegun, text_of};
 
 use gw_ending::Fault;
-use gw_ending::reading::print;
+use gw_ending::reading::Said;
 use gw_notices::write_note;
 use gw_policy_drafts::beginning::{BeginFault, SiteInWords, begin, wrong_line};
 use gw_script::OctetSink;
 use gw_tool_line::SiteWords;
 use std::alloc::Global;
-use std::io::{BufWriter, Write};
 
 /// The words, lent.
 fn words_of(site: &SiteWords) -> SiteInWords<'_>
@@ -28,22 +26,20 @@ fn words_of(site: &SiteWords) -> SiteInWords<'_>
     }
 }
 
-/// Prints a configuration to begin with, of what these words say, or reports which of them is wrong.
-pub fn begin_site<W: Write + Drop, E: OctetSink>(
+/// What `init` says: a configuration to begin with, of what these words say; or it reports which of them is wrong. Faults: `CommandLine`,
+/// then; `Unlisted`; and `Memory`.
+pub fn begin_site<E: OctetSink>(
     alloc: Global,
     site: &SiteWords,
-    output: &mut BufWriter<W>,
     errors: &mut E,
-) -> Result<(), Fault>
-    ensures begun { (said : List ℕ) × LeavesBegun (text_of site.now) (writer_contents W.contents output.old)
-        (writer_contents W.contents output.new) said result
-        × (E.NeverFails errors.old → Appends (E.held errors.old) (E.held errors.new) said) }
+) -> Result<Said, Fault>
+    ensures begun { (reported : List ℕ) × SaysBegun (text_of site.now) reported result
+        × (E.NeverFails errors.old → Appends (E.held errors.old) (E.held errors.new) reported) }
     ensures lasting { E.NeverFails errors.old → E.NeverFails errors.new }
-    ensures flush { OnOk result (writer_buffer output.new ≡ []) }
 {
     let words = words_of(site);
     match begin(alloc, &words) {
-        Ok(text) => print(&text, output),
+        Ok(text) => Ok(Said::well(text)),
         Err(BeginFault::Word(wrong)) => {
             let line = wrong_line(alloc, &words, wrong)?;
             write_note(&line, errors);

@@ -2,16 +2,20 @@
 //! also who may do what under it, with `--lint` also which rules never decide.
 
 ghost use Rattle.std.specs.Prelude.{◌≡◌, ◌++◌, IfOk, OnOk};
+ghost use Rattle.gw_ending.specs.reading.Files.{result_map};
 ghost use Rattle.gw_policy_review.specs.warnings.Oversights.{oversights_text};
 ghost use Rattle.gw_policy_review.specs.warnings.Warnings.{warnings_text};
-ghost use Rattle.gw_tools.specs.Checked.{IsChecked, IsExplained, SaysPermissions};
+ghost use Rattle.gw_tools.specs.Checked.{IsChecked, IsExplained, SaysChecked, SaysConfig, SaysPermissions};
 
-use gw_ask_sets::assertions::Judged;
+use crate::placed::octets_or;
+use gw_ask_sets::assertions::{JUDGING_STEPS, Judged, judge};
 use gw_configuration::Config;
-use gw_ending::reading::judged_text;
+use gw_ending::Fault;
+use gw_ending::reading::{Said, configuration_of, fault_note, judged_text, said_of_judged};
 use gw_policy_review::lint::put_lint;
 use gw_policy_review::permissions::put_permissions;
 use gw_policy_review::warnings::{put_oversights, put_warnings};
+use gw_policy_text::lines::table_lines;
 use std::alloc::{AllocError, Global};
 
 /// Whether it is said who may do what, and which rules never decide.
@@ -23,10 +27,33 @@ pub struct Checking {
     pub lints: bool,
 }
 
-/// What `check` prints of a configuration whose assertions were judged so: its summary, or the lines of those that don't hold; and
+/// What `check` says of a text that was read: what the configuration has, or what is wrong with it.
+pub fn check(alloc: Global, how: Checking, text: &Result<Vec<u8>, Fault>) -> Result<Said, Fault>
+    ensures { SaysChecked how.explains how.lints (result_map (λ octets. octets.items) text.now) result }
+{
+    match configuration_of(alloc, text) {
+        Ok(config) => say_config(alloc, how, octets_or(text), &config),
+        Err(fault) => {
+            let note = fault_note(alloc, true, text, fault);
+            Ok(Said::of_fault(note, fault))
+        }
+    }
+}
+
+/// What is said of a configuration by its text. `Memory` is its only fault.
+fn say_config(alloc: Global, how: Checking, text: &[u8], config: &Config) -> Result<Said, Fault>
+    ensures { SaysConfig how.explains how.lints text.now config.now result }
+{
+    let lines = table_lines(alloc, config.written_rules(), text)?;
+    let judged = judge(alloc, config, JUDGING_STEPS)?;
+    let said = checked_text(alloc, how, config, &lines, &judged)?;
+    Ok(said_of_judged(said, &judged))
+}
+
+/// The text of a configuration whose assertions were judged so: its summary, or the lines of those that don't hold; and
 /// after it what else is asked for, by the lines of the text on which the tables of the rules begin. An `Err` only where a growth of
 /// memory was refused.
-pub fn checked_text(
+fn checked_text(
     alloc: Global,
     how: Checking,
     config: &Config,

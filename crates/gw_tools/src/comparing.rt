@@ -1,23 +1,23 @@
 //! Two configurations, compared, and how far that is.
 
 ghost use Rattle.std.specs.Prelude.{◌≡◌, [], ℕ, Bool, List, if◌then◌else◌, length, IfOk, IsOk, OnOk};
-ghost use Rattle.std.specs.Io.Buffered.{writer_buffer, writer_contents};
 ghost use Rattle.std.specs.Io.KnownBytes.{Appends};
+ghost use Rattle.gw_ending.specs.declared.fault.Fault.TheVariants as fault;
 ghost use Rattle.gw_policy_review.specs.comparison.Comparing.{IsUnderWay};
 ghost use Rattle.gw_policy_review.specs.comparison.Comparison.{manner_of};
-ghost use Rattle.gw_tools.specs.Comparing.{AreProgress, IsCompared, IsComparedBehind, ReportsProgress, outcome_of_comparison, progress_line};
-ghost use Rattle.gw_tools.specs.Program.{LeavesCompared, LeavesComparison, LeavesLines};
+ghost use Rattle.gw_tools.specs.Comparing.{AreProgress, IsCompared, IsComparedBehind, ReportsProgress, SaysCompared};
+ghost use Rattle.gw_tools.specs.Comparing.{outcome_of_comparison, progress_line};
+ghost use Rattle.gw_tools.specs.Saying.{SaysOfBoth};
 
 use crate::asserting::put_assertions;
 use crate::placed::Placed;
 use gw_configuration::Config;
-use gw_ending::reading::print;
-use gw_ending::{Fault, Streams, write_number};
+use gw_ending::reading::Said;
+use gw_ending::{Fault, write_number};
 use gw_log_words::{Calendar, Moment};
 use gw_policy_review::comparison::{Compared, Comparing, Printing, put_steps};
 use gw_script::{OctetSink, WriteFailed};
 use std::alloc::{AllocError, Global};
-use std::io::{BufWriter, Write};
 
 /// How many steps a comparison takes before the time is looked at.
 const PORTION: u32 = 256;
@@ -227,7 +227,7 @@ fn compared<C: Calendar, E: OctetSink>(
 }
 
 /// How a comparison ends: `OtherParts` if only other parts differ, and `Different` if an ask may be decided otherwise.
-pub fn outcome_of(made: Compared) -> Result<(), Fault>
+fn outcome_of(made: Compared) -> Result<(), Fault>
     ensures { result ≡ outcome_of_comparison made }
 {
     match made {
@@ -237,58 +237,45 @@ pub fn outcome_of(made: Compared) -> Result<(), Fault>
     }
 }
 
-/// Prints a comparison, if memory wasn't refused for it.
-pub fn print_lines<W: Write + Drop>(
-    lines: Result<Lines, AllocError>,
-    output: &mut BufWriter<W>,
-) -> Result<(), Fault>
-    ensures output { LeavesLines lines (writer_contents W.contents output.old)
-        (writer_contents W.contents output.new) result }
-    ensures flush { OnOk result (writer_buffer output.new ≡ []) }
+/// What is said of a comparison.
+pub fn said_of(lines: Lines) -> Said
+    ensures text { result.text ≡ lines.text }
+    ensures ends { result.ends ≡ outcome_of_comparison lines.made }
+    ensures unprinted { result.unprinted ≡ fault.Write }
 {
-    let lines = lines?;
-    print(&lines.text, output)?;
-    outcome_of(lines.made)
+    let ends = outcome_of(lines.made);
+    Said::ending(lines.text, ends)
 }
 
-/// Prints what the rules of two configurations decide otherwise.
-pub fn print_compared<C: Calendar, R, W: Write + Drop, E: OctetSink>(
+/// What is said of two configurations, and once a second how far their comparison is. `Memory` is its only fault.
+pub fn say_compared<C: Calendar, E: OctetSink>(
     alloc: Global,
     limits: Limits,
     sides: &Sides<'_>,
     seconds: &mut Seconds<C>,
-    streams: &mut Streams<R, W, E>,
-) -> Result<(), Fault>
-    ensures output { let held = writer_contents W.contents streams.old.output in
-        let holds = writer_contents W.contents streams.new.output in
-        LeavesCompared limits held holds sides.now.old.now sides.now.new.now result }
-    ensures said { let was = streams.old in
-        let is = streams.new in
-        (said : List ℕ) × AreProgress sides.now.old.now.config sides.now.new.now.config said
-        × (E.NeverFails was.errors → Appends (E.held was.errors) (E.held is.errors) said) }
-    ensures lasts { E.NeverFails streams.old.errors → E.NeverFails streams.new.errors }
-    ensures flush { OnOk result (writer_buffer streams.new.output ≡ []) }
+    errors: &mut E,
+) -> Result<Said, Fault>
+    ensures compared { SaysCompared (IsCompared limits sides.now.old.now sides.now.new.now) result }
+    ensures said { (said : List ℕ) × AreProgress sides.now.old.now.config sides.now.new.now.config said
+        × (E.NeverFails errors.old → Appends (E.held errors.old) (E.held errors.new) said) }
+    ensures lasts { E.NeverFails errors.old → E.NeverFails errors.new }
 {
-    let lines = compared(alloc, limits, sides, seconds, &mut streams.errors);
-    print_lines(lines, &mut streams.output)
+    let lines = compared(alloc, limits, sides, seconds, errors)?;
+    Ok(said_of(lines))
 }
 
-/// Compares the two configurations that were read.
-pub fn compare<C: Calendar, R, W: Write + Drop, E: OctetSink>(
+/// What `compare` says of the two that were read. Faults: why there is no first or no second one, and `Memory`.
+pub fn compare<C: Calendar, E: OctetSink>(
     alloc: Global,
     limits: Limits,
     both: Both,
     seconds: &mut Seconds<C>,
-    streams: &mut Streams<R, W, E>,
-) -> Result<(), Fault>
-    ensures output { LeavesComparison limits (writer_contents W.contents streams.old.output)
-        (writer_contents W.contents streams.new.output) both.old both.new result }
-    ensures said { let was = streams.old in
-        let is = streams.new in
-        (said : List ℕ) × ReportsProgress both.old both.new said
-        × (E.NeverFails was.errors → Appends (E.held was.errors) (E.held is.errors) said) }
-    ensures lasts { E.NeverFails streams.old.errors → E.NeverFails streams.new.errors }
-    ensures flush { OnOk result (writer_buffer streams.new.output ≡ []) }
+    errors: &mut E,
+) -> Result<Said, Fault>
+    ensures compared { SaysOfBoth (λ old new. SaysCompared (IsCompared limits old new)) both.old both.new result }
+    ensures said { (said : List ℕ) × ReportsProgress both.old both.new said
+        × (E.NeverFails errors.old → Appends (E.held errors.old) (E.held errors.new) said) }
+    ensures lasts { E.NeverFails errors.old → E.NeverFails errors.new }
 {
     let old = both.old?;
     match both.new {
@@ -297,7 +284,7 @@ pub fn compare<C: Calendar, R, W: Write + Drop, E: OctetSink>(
                 old: &old,
                 new: &new,
             };
-            print_compared(alloc, limits, &sides, seconds, streams)
+            say_compared(alloc, limits, &sides, seconds, errors)
         }
         Err(fault) => Err(fault.of_other()),
     }

@@ -4,7 +4,8 @@ ghost use Rattle.std.specs.Prelude.{◌≡◌, [], Err, string_bytes};
 ghost use Rattle.std.specs.Io.KnownBytes.{Appends};
 ghost use Rattle.std.specs.Option.{option_map_or};
 ghost use Rattle.std.specs.Process.{exit_status};
-ghost use Rattle.gw_tools.specs.Ending.{ReportsPlaceBy, error_text_by, explains_itself, file_of, first_file, log_file, other_file, state_file};
+ghost use Rattle.gw_tools.specs.Ending.{ReportsPlaceBy, error_text_by, explains_itself, file_of, first_file};
+ghost use Rattle.gw_tools.specs.Ending.{log_file, other_file, state_file};
 ghost use Rattle.gw_tools.specs.Ending.{status_by, status_of_comparison, usage_of};
 
 use gw_ending::reading::{ConfigFiles, report_place};

@@ -1,23 +1,24 @@
 //! What `check` and `compare` say as JSON objects, and the list of a configuration's objects.
 
-ghost use Rattle.std.specs.Prelude.{◌≡◌, ◌⊎◌, [], option_map, IfOk, OnOk};
-ghost use Rattle.std.specs.Io.Buffered.{writer_buffer, writer_contents};
+ghost use Rattle.std.specs.Prelude.{◌≡◌, ◌⊎◌, [], option_map, IfOk};
 ghost use Rattle.gw_json.specs.Check.{fault_value};
 ghost use Rattle.gw_json.specs.Document.{line_of};
 ghost use Rattle.gw_policy_review.specs.comparison.Comparison.{AreResults};
 ghost use Rattle.gw_policy_review.specs.comparison.PairLines.{known_of};
 ghost use Rattle.gw_report.specs.points.Points.{points_text};
 ghost use Rattle.gw_ending.specs.reading.Files.{result_map};
-ghost use Rattle.gw_tools.specs.Json.{AreComparisonLines, IsPartsLine, IsTextOf, FaultLine, IsFaultLine, IsMade, judged_line};
-ghost use Rattle.gw_tools.specs.Program.{LeavesCheckedJson, LeavesCheckedLine, LeavesComparedJson, LeavesComparisonJson, LeavesPoints};
+ghost use Rattle.gw_tools.specs.Comparing.{SaysCompared};
+ghost use Rattle.gw_tools.specs.Json.{AreComparisonLines, FaultLine, IsFaultLine, IsMade, IsPartsLine, IsTextOf};
+ghost use Rattle.gw_tools.specs.Json.{SaysCheckedInJson, SaysConfigInJson, judged_line};
+ghost use Rattle.gw_tools.specs.Saying.{SaysMade, SaysOf, SaysOfBoth};
 
 use crate::asserting::put_assertions;
-use crate::comparing::{Lines, print_lines};
+use crate::comparing::{Lines, said_of};
 use gw_ask_sets::assertions::{JUDGING_STEPS, Judged, judge};
 use gw_ask_sets::regions::MAX_STEPS;
 use gw_configuration::{Config, ConfigFault};
 use gw_ending::Fault;
-use gw_ending::reading::{configuration_of, do_hold, print, print_judged, print_made};
+use gw_ending::reading::{Said, configuration_of, do_hold, said_of_judged};
 use gw_json::{ResultListing, put_check, put_differences, put_fault, put_results, unheld_line};
 use gw_policy_review::comparison::{
     Comparing, Part, Results, differing_parts, judged_by, put_details, put_part_names,
@@ -25,7 +26,6 @@ use gw_policy_review::comparison::{
 use gw_policy_text::faults::explain;
 use gw_report::points::put_points;
 use std::alloc::{AllocError, Global};
-use std::io::{BufWriter, Write};
 use std::str;
 
 /// The line of a configuration whose assertions were judged so: what it has, or which of them don't hold.
@@ -40,19 +40,13 @@ fn judged_line(alloc: Global, config: &Config, judged: &[Judged]) -> Result<Vec<
     Ok(line)
 }
 
-/// Prints what a configuration has, or which of its assertions don't hold.
-fn print_checked<W: Write + Drop>(
-    alloc: Global,
-    config: &Config,
-    output: &mut BufWriter<W>,
-) -> Result<(), Fault>
-    ensures output { LeavesCheckedLine (writer_contents W.contents output.old)
-        (writer_contents W.contents output.new) config.now result }
-    ensures flush { OnOk result (writer_buffer output.new ≡ []) }
+/// What is said of a configuration: what it has, or which of its assertions don't hold. `Memory` is its only fault.
+fn say_config(alloc: Global, config: &Config) -> Result<Said, Fault>
+    ensures { SaysConfigInJson config.now result }
 {
     let judged = judge(alloc, config, JUDGING_STEPS)?;
     let line = judged_line(alloc, config, &judged)?;
-    print_judged(&line, &judged, output)
+    Ok(said_of_judged(line, &judged))
 }
 
 /// The line of a fault, with what explains it. Nothing if memory was refused.
@@ -89,22 +83,15 @@ fn fault_object(alloc: Global, text: &Result<Vec<u8>, Fault>, fault: Fault) -> V
     Vec::new(alloc)
 }
 
-/// Prints what the configuration has that was read, or its fault, as a JSON object.
-pub fn check_in_json<W: Write + Drop>(
-    alloc: Global,
-    text: &Result<Vec<u8>, Fault>,
-    output: &mut BufWriter<W>,
-) -> Result<(), Fault>
-    ensures output { LeavesCheckedJson (result_map (λ octets. octets.items) text.now)
-        (writer_contents W.contents output.old) (writer_contents W.contents output.new) result }
-    ensures flush { OnOk result (writer_buffer output.new ≡ []) }
+/// What `check --json` says of a text that was read: what the configuration has, or its fault.
+pub fn check_in_json(alloc: Global, text: &Result<Vec<u8>, Fault>) -> Result<Said, Fault>
+    ensures { SaysCheckedInJson (result_map (λ octets. octets.items) text.now) result }
 {
     match configuration_of(alloc, text) {
-        Ok(config) => print_checked(alloc, &config, output),
+        Ok(config) => say_config(alloc, &config),
         Err(fault) => {
-            // If this can't be printed the fault is reported all the same.
-            let _ = print(&fault_object(alloc, text, fault), output);
-            Err(fault)
+            let object = fault_object(alloc, text, fault);
+            Ok(Said::of_fault(object, fault))
         }
     }
 }
@@ -178,60 +165,31 @@ fn comparison_lines(
     Ok(Lines { text, made })
 }
 
-/// Prints what the rules of two configurations decide otherwise, as JSON objects.
-fn print_compared<W: Write + Drop>(
-    alloc: Global,
-    most: u64,
-    old: &Config,
-    new: &Config,
-    output: &mut BufWriter<W>,
-) -> Result<(), Fault>
-    ensures output { let held = writer_contents W.contents output.old in
-        let holds = writer_contents W.contents output.new in
-        LeavesComparedJson most held holds old.now new.now result }
-    ensures flush { OnOk result (writer_buffer output.new ≡ []) }
-{
-    print_lines(comparison_lines(alloc, most as usize, old, new), output)
-}
-
-/// Compares the two configurations that were read, in JSON objects.
-pub fn compare_in_json<W: Write + Drop>(
+/// What `compare --json` says of the two configurations that were read. Faults: why there is no first or no second one, and `Memory`.
+pub fn compare_in_json(
     alloc: Global,
     most: u64,
     old: Result<Config, Fault>,
     new: Result<Config, Fault>,
-    output: &mut BufWriter<W>,
-) -> Result<(), Fault>
-    ensures output { LeavesComparisonJson most (writer_contents W.contents output.old)
-        (writer_contents W.contents output.new) old new result }
-    ensures flush { OnOk result (writer_buffer output.new ≡ []) }
+) -> Result<Said, Fault>
+    ensures { SaysOfBoth (λ old new. SaysCompared (AreComparisonLines old new most)) old new result }
 {
     let old = old?;
     match new {
-        Ok(new) => print_compared(alloc, most, &old, &new, output),
+        Ok(new) => {
+            let lines = comparison_lines(alloc, most as usize, &old, &new)?;
+            Ok(said_of(lines))
+        }
         Err(fault) => Err(fault.of_other()),
     }
 }
 
-/// The list of the objects of a configuration. `Memory` is its only fault.
-fn points_of(alloc: Global, config: &Config) -> Result<Vec<u8>, Fault>
-    ensures { IsMade (points_text config.now) (result_map (λ octets. octets.items) result) }
-{
-    let mut text = Vec::new(alloc);
-    put_points(alloc, config, &mut text)?;
-    Ok(text)
-}
-
-/// Prints the list of the objects of the configuration that was read.
-pub fn print_points<W: Write + Drop>(
-    alloc: Global,
-    config: Result<Config, Fault>,
-    output: &mut BufWriter<W>,
-) -> Result<(), Fault>
-    ensures output { LeavesPoints (writer_contents W.contents output.old)
-        (writer_contents W.contents output.new) config result }
-    ensures flush { OnOk result (writer_buffer output.new ≡ []) }
+/// What `objects --csv` says of the configuration that was read: the list of its objects. Faults: why there is none, and `Memory`.
+pub fn say_points(alloc: Global, config: Result<Config, Fault>) -> Result<Said, Fault>
+    ensures { SaysOf (λ c. SaysMade (IsMade (points_text c))) config result }
 {
     let config = config?;
-    print_made(points_of(alloc, &config), output)
+    let mut text = Vec::new(alloc);
+    put_points(alloc, &config, &mut text)?;
+    Ok(Said::well(text))
 }

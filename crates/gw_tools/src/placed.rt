@@ -1,9 +1,9 @@
 //! A configuration, with the lines of its text on which the tables of its rules begin.
 
+ghost use Rattle.std.specs.Prelude.{◌≡◌};
 ghost use Rattle.gw_ending.specs.reading.Files.{result_map};
-ghost use Rattle.gw_tools.specs.Placed.{IsPlaced, IsPlacedAs, IsPlacedIn};
+ghost use Rattle.gw_tools.specs.Placed.{IsPlaced, IsPlacedIn, octets_or};
 
-use crate::reloading::octets_or;
 use gw_configuration::Config;
 use gw_ending::Fault;
 use gw_ending::reading::{ConfigFiles, configuration_of};
@@ -27,8 +27,18 @@ impl Drop for Placed {
     }
 }
 
+/// The text of what was read, or nothing.
+pub fn octets_or(text: &Result<Vec<u8>, Fault>) -> &[u8]
+    ensures { result.now ≡ octets_or (result_map (λ octets. octets.items) text.now) }
+{
+    match text {
+        Ok(octets) => octets.as_slice(),
+        Err(_) => b"",
+    }
+}
+
 /// That of a text that was read. Faults: the fault of reading; `Configuration` with the text's first fault; and `Memory`.
-fn placed_of(alloc: Global, text: &Result<Vec<u8>, Fault>) -> Result<Placed, Fault>
+pub fn placed_of(alloc: Global, text: &Result<Vec<u8>, Fault>) -> Result<Placed, Fault>
     ensures { IsPlaced (result_map (λ octets. octets.items) text.now) result }
 {
     let config = configuration_of(alloc, text)?;
@@ -36,21 +46,8 @@ fn placed_of(alloc: Global, text: &Result<Vec<u8>, Fault>) -> Result<Placed, Fau
     Ok(Placed { config, lines })
 }
 
-/// That of a configuration that was read of a text. Faults: why it wasn't read; and `Memory`.
-pub(crate) fn placed_as(
-    alloc: Global,
-    config: Result<Config, Fault>,
-    text: &Result<Vec<u8>, Fault>,
-) -> Result<Placed, Fault>
-    ensures { IsPlacedAs config (result_map (λ octets. octets.items) text.now) result }
-{
-    let config = config?;
-    let lines = table_lines(alloc, config.written_rules(), octets_or(text))?;
-    Ok(Placed { config, lines })
-}
-
 /// That of the file of this name. Faults: `Unreadable`, `Configuration` and `Memory`.
-pub(crate) fn placed_in<F: ConfigFiles>(
+pub fn placed_in<F: ConfigFiles>(
     alloc: Global,
     files: &F,
     name: &str,

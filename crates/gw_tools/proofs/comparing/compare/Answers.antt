@@ -1,12 +1,13 @@
 use Rattle.std.proofs.Common.{rules, ◌≡◌, Result, Ok, subst, sym}
 use Rattle.gw_ending.specs.declared.fault.Fault.{Fault}
-use Rattle.gw_tools.specs.Comparing.{AreProgress, ReportsProgress}
+use Rattle.gw_tools.specs.Comparing.{AreProgress, IsCompared, ReportsProgress, SaysCompared}
+use Rattle.gw_tools.specs.Saying.{SaysOfBoth}
 use Rattle.gw_tools.specs.declared.placed.Placed.{Placed}
 use Rattle.gw_tools.proofs.comparing.compare.Goals as goal
 
 pub returns-in-Ok-clause-said : goal.returns-in-Ok-clause-said
 returns-in-Ok-clause-said g c =
-    let said = c.print_compared.ensures.said in
+    let said = c.say_compared.ensures.said in
     let first : c.args.both.old ≡ Ok c.in_ok-old.old = search rules in
     let second : c.args.both.new ≡ Ok c.in-Ok.new = c.in-Ok.is in
     let told : AreProgress c.in_ok-old.old.config c.in-Ok.new.config said.0 =

@@ -5,8 +5,8 @@ use Rattle.std.specs.Prelude.{string_bytes}
 use Rattle.gw_tool_line.specs.declared.options.Shown.{Shown}
 use Rattle.gw_ending.specs.reading.Files.{result_map}
 use Rattle.gw_tools.specs.Placed.{IsPlacedIn}
-use Rattle.gw_tools.specs.Reloading.{answers_by}
-use Rattle.gw_tools.specs.Program.{LeavesReload, LeavesReloadOf, LeavesReloadShown}
+use Rattle.gw_tools.specs.Reloading.{SaysReload, SaysReloadOf, ShowsReload, answers_by}
+use Rattle.gw_tools.specs.Saying.{SaysOf}
 use Rattle.gw_notices.proofs.AppendLemmas.{appends_nothing}
 use Rattle.gw_tools.proofs.reloading.reload_in.Goals as goal
 
@@ -18,56 +18,41 @@ returns-in-Some-clause-reloaded g c =
     let text = result_map (λ (octets : Vec ℕ). octets.items) c.read-text.result in
     let request = c.args.asking.now.request.now in
     let held = contents c.args.streams.now.output in
-    let mid = contents c.sound_of-new.new.output in
-    let holds = contents c.reload_shown.new.streams.output in
+    let mid = contents c.reload_shown.new.streams.output in
     let old = c.placed_in-old.result in
-    let new = c.placed_as-new.result in
-    let said = c.reload_shown.ensures.said in
+    let new = c.placed_of-new.result in
+    let said = c.reload_shown.result in
+    let shown = c.reload_shown.ensures.shown in
     let name : c.deref.result.now ≡ string_bytes c.in-Some.shown.old = search rules in
     let is : c.args.asking.now.was.now ≡ Some c.in-Some.shown = c.in-Some.is in
-    let shown = subst (λ (t : List ℕ). LeavesReloadShown answers request t c.in-Some.shown.most mid holds old new c.reload_shown.result)
-    c.octets_or.ensures c.reload_shown.ensures.output in (
-      said.0,
+    let shows = subst (λ (t : List ℕ). ShowsReload answers request t c.in-Some.shown.most held mid shown.0 old new said) c.octets_or.ensures shown.1 in (
+      shown.0,
       (
         text,
         c.read-text.ensures,
-        subst (λ (was : Option Shown). LeavesReloadOf reads answers request text was held holds said.0 c.reload_shown.result) (sym is) (
-          c.configuration_of-read.result,
-          c.configuration_of-read.ensures,
-          mid,
-          c.sound_of-new.result,
-          c.sound_of-new.ensures,
-          old,
-          subst (λ (name : List ℕ). IsPlacedIn reads name old) name c.placed_in-old.ensures,
-          new,
-          c.placed_as-new.ensures,
-          shown,
-          said.1,
-        ),
+        subst (λ (was : Option Shown). SaysReloadOf reads answers request text was held mid shown.0 said) (sym is)
+            (old, subst (λ (name : List ℕ). IsPlacedIn reads name old) name c.placed_in-old.ensures, new, c.placed_of-new.ensures, shows),
       ),
-      said.2,
+      shown.2,
     )
 
-pub returns-in-None-clause-reloaded : goal.returns-in-None-clause-reloaded
-returns-in-None-clause-reloaded g c =
+pub returns-clause-reloaded : goal.returns-clause-reloaded
+returns-clause-reloaded g c =
     let reads = g.F.ConfigFiles.Reads c.args.files.now in
     let answers = answers_by (g.M.Machine.Asks c.args.machine.now) g.M.Machine.Answers in
-    let contents = writer_contents g.W.Write.contents in
     let text = result_map (λ (octets : Vec ℕ). octets.items) c.read-text.result in
     let request = c.args.asking.now.request.now in
-    let held = contents c.args.streams.now.output in
-    let mid = contents c.sound_of-new.new.output in
-    let holds = contents c.reload.new.output in
-    let new = c.sound_of-new.result in
+    let held = writer_contents g.W.Write.contents c.args.streams.now.output in
+    let config = c.configuration_of.result in
+    let said = c.reload.result in
     let is : c.args.asking.now.was.now ≡ None = c.in-None.is in
-    let asked = subst (λ (t : List ℕ). LeavesReload answers request t mid holds new c.reload.result)
-    c.octets_or.ensures c.reload.ensures.output in (
+    let says = subst (λ (t : List ℕ). SaysOf (SaysReload answers request t) config said) c.octets_or.ensures c.reload.ensures in (
       [],
       (
         text,
         c.read-text.ensures,
-        subst (λ (was : Option Shown). LeavesReloadOf reads answers request text was held holds [] c.reload.result) (sym is)
-            (c.configuration_of-read.result, c.configuration_of-read.ensures, mid, new, c.sound_of-new.ensures, asked, refl),
+        subst (λ (was : Option Shown). SaysReloadOf reads answers request text was held held [] said) (sym is)
+            (config, c.configuration_of.ensures, says, refl, refl),
       ),
       λ sure. appends_nothing (g.E.OctetSink.held c.args.streams.now.errors),
     )
