@@ -11,6 +11,7 @@ pub mod Marked
 pub mod Resumed
 pub mod Lasting
 pub mod Drops
+pub mod Deciders
 pub mod Seen
 pub mod Guard
 pub mod Explained

@@ -4,6 +4,7 @@
 #![tactic(auto)]
 
 mod asked;
+mod deciders;
 mod denial;
 mod drops;
 mod effects;
@@ -20,9 +21,11 @@ mod respond;
 mod saving;
 mod seen;
 mod sieve;
+mod streak;
 mod whole_run;
 
 pub use asked::{AllAsked, Asked};
+pub use deciders::Deciders;
 pub use denial::rule_name;
 pub use drops::DropReason;
 pub use effects::Effects;
@@ -37,5 +40,6 @@ pub use gw_relay::{Batch, Sends};
 pub use gw_script::{Event, script_laws};
 pub use receive::Arrival;
 pub use reporting::{AllAsks, DenialsAlone, Reporting, SeenBy};
-pub use seen::{Deciders, SeenAsks, Whom};
+pub use seen::{SeenAsks, Whom};
+pub use streak::Streak;
 pub use whole_run::{run, take_event, take_event_to};

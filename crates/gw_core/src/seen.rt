@@ -8,9 +8,10 @@ ghost use Rattle.gw_core.specs.Seen.{nothing_seen, seen_of};
 ghost use Rattle.gw_core.specs.internal.Sieved.{deciders_of};
 ghost use Rattle.gw_core.specs.internal.View.{origin_of};
 
+use crate::deciders::Deciders;
 use crate::denial::origin_of;
 use crate::receive::Received;
-use gw_addr::{Mac, NetNum, Sequence, Source};
+use gw_addr::{Mac, NetNum, Source};
 use gw_rules::{Ask, Operation, Verdict, Verdicts};
 use std::alloc::Global;
 use std::marker::Model;
@@ -72,9 +73,6 @@ fn any_source() -> Source {
     }
 }
 
-/// By which rule each ask was decided: its number, from 1, or none. Contracts see the list of them.
-pub type Deciders = Sequence<Option<u16>>;
-
 /// What a guard sees of what an event asks: by which rule each ask was decided, in order, and whole those verdicts that the guard wants
 /// to see whole. Whom the asks are of is kept once. Contracts see both lists.
 #[derive(Drop)]
@@ -127,10 +125,10 @@ impl SeenAsks {
     }
 
     /// By which rule each ask was decided, in order.
-    pub fn deciders(&self) -> &[Option<u16>]
+    pub fn deciders(&self) -> &Deciders
         ensures { result.now ≡ self.now.deciders }
     {
-        self.deciders.as_slice()
+        &self.deciders
     }
 
     /// Whom the asks are of, and the verdicts that are kept whole, in order.

@@ -7,9 +7,9 @@ ghost use Rattle.gw_rules.specs.RuleList.{is_quiet_by};
 ghost use Rattle.gw_rules.specs.declared.verdict.Verdict.{Verdict};
 ghost use Rattle.gw_core.specs.internal.Sieved.{IsSieved, sieved_on};
 
+use crate::deciders::Deciders;
 use crate::guard::Guard;
 use crate::heard::HeardVerdicts;
-use crate::seen::Deciders;
 use gw_rule_index::Policy;
 use gw_rules::{Ask, Asker, Judge, Refusal, Refusals, Verdict, Verdicts};
 use std::alloc::{AllocError, Global};

@@ -1,11 +1,15 @@
 -- How counts go on.
-use Rattle.std.proofs.Common.{◌≡◌, ◌∙◌, refl, sym, ap, subst, zero, suc, ℕ, ◌+◌, ◌-◌, ◌^◌, ◌<◌, ◌≤◌, ◌⊎◌, inl, inr, Bool, true, false, List, [], ◌∷◌, ◌++◌, Option, length, map, take, slice_index_or, arith}
+use Rattle.std.proofs.Common.{◌≡◌, ◌∙◌, refl, sym, ap, zero, suc, ℕ, ◌+◌, ◌-◌, ◌^◌, ◌<◌, ◌≤◌, ◌⊎◌, inl, inr, Bool, true, false, List, [], ◌∷◌, ◌++◌, Option, length, replicate, slice_index_or, take, arith, map}
 use Rattle.std.proofs.Math.Dec.{eqb-suc-zero}
 use Rattle.std.proofs.Math.Nat.{min-eq_left, min-eq_right}
 use Rattle.std.proofs.Math.Seq.{take-suc}
 use Rattle.std.proofs.lemmas.Bool.{cases_lt}
+use Rattle.std.proofs.lemmas.List.{append-nil}
+use Rattle.std.proofs.lemmas.Grind.{flat_map-append}
 use Rattle.std.specs.Prelude.{◌==◌, min, if◌then◌else◌, slice_index}
+use Rattle.gw_core.specs.Deciders.{decided_along, decided_in}
 use Rattle.gw_core.specs.declared.asked.Asked.{Asked}
+use Rattle.gw_core.specs.declared.streak.Streak.{Streak}
 use Rattle.gw_decisions.specs.tally.Tally.{CountsMore, more, one_more, place_of}
 use Rattle.gw_decisions.specs.Counted.{AreCounted, AreCountedBy, counted_by, counted_on}
 
@@ -13,84 +17,62 @@ counted_along : (k count : ℕ) (one two : List (Option ℕ)) → counted_by k c
 counted_along k count [] two = refl
 counted_along k count (by ∷ one) two = counted_along k (if place_of by == k then one_more count else count) one two
 
--- a count to which so many are still to be added, if it is of this place
-abbrev pub owing : (place count k n : ℕ) → ℕ
-owing place count k n = if place == k then more count n else n
+pub counted_then : (first now new : List ℕ) (one two : List (Option ℕ))
+    → AreCountedBy first one now → AreCountedBy now two new → AreCountedBy first (one ++ two) new
+counted_then first now new one two p q = record {
+  places = q.places ∙ p.places;
+  each = λ k within. q.each k (omega (arith, within, p.places)) ∙ ap (λ (n : ℕ). counted_by k n two) (p.each k within)
+      ∙ sym (counted_along k (slice_index first k) one two);
+}
 
--- what was counted of these rules, but for the last ones, so many of this place
-pub record AreOwing (place count : ℕ) (before : List ℕ) (deciders : List (Option ℕ)) (now : List ℕ) : Type 0 where
-  pub places : length now ≡ length before
-  pub each : (k : ℕ) → k < length before → counted_by k (slice_index before k) deciders ≡ owing place count k (slice_index now k)
-
-same_if : (b : Bool) (n : ℕ) → n ≡ (if b then n else n)
-same_if true n = refl
-same_if false n = refl
-
-pub owing_none : (counts : List ℕ) → AreOwing 0 0 counts [] counts
-owing_none counts = record { places = refl; each = λ k within. same_if (0 == k) (slice_index counts k) }
-
--- one more of a count that may be at its end
-at_end : (end n : ℕ) → (n < end) ⊎ (end ≤ n) → min (n + 1) end ≡ min (min n end + 1) end
-at_end end n (inl below) = ap (λ (m : ℕ). min (m + 1) end) (sym (min-eq_left (omega (arith, below))))
-at_end end n (inr past) =
-    min-eq_right (omega (arith, past)) ∙ sym (min-eq_right (omega arith)) ∙ ap (λ (m : ℕ). min (m + 1) end) (sym (min-eq_right past))
+-- a count that may be at its end goes on by one and then by more, or by all at once
+capped : (end n count : ℕ) → (n < end) ⊎ (end ≤ n) → min (min n end + count) end ≡ min (n + count) end
+capped end n count (inl below) = ap (λ (m : ℕ). min (m + count) end) (min-eq_left (omega (arith, below)))
+capped end n count (inr past) =
+    ap (λ (m : ℕ). min (m + count) end) (min-eq_right past) ∙ min-eq_right (omega arith) ∙ sym (min-eq_right (omega (arith, past)))
 
 more_some : (count n : ℕ) → more (suc count) n ≡ min (n + suc count) (2 ^ 64 - 1)
 more_some count n = ap (λ (b : Bool). if b then n else min (n + suc count) (2 ^ 64 - 1)) (eqb-suc-zero count)
 
-more_next : (count n : ℕ) → more (suc count) n ≡ one_more (more count n)
-more_next zero n = refl
-more_next (suc count) n =
-    let sum : n + suc (suc count) ≡ n + suc count + 1 = omega arith in
-    more_some (suc count) n ∙ ap (λ (m : ℕ). min m (2 ^ 64 - 1)) sum
-    ∙ at_end (2 ^ 64 - 1) (n + suc count) (cases_lt (n + suc count) (2 ^ 64 - 1)) ∙ ap one_more (sym (more_some count n))
+more_then : (count n : ℕ) → more count (one_more n) ≡ more (suc count) n
+more_then zero n = refl
+more_then (suc count) n =
+    let sum : n + 1 + suc count ≡ n + suc (suc count) = omega arith in
+    more_some count (one_more n) ∙ capped (2 ^ 64 - 1) (n + 1) (suc count) (cases_lt (n + 1) (2 ^ 64 - 1))
+    ∙ ap (λ (m : ℕ). min m (2 ^ 64 - 1)) sum ∙ sym (more_some (suc count) n)
 
-owing_more : (b : Bool) (count n : ℕ) → (if b then one_more (if b then more count n else n) else (if b then more count n else n)) ≡ (if b then more (suc count) n else n)
-owing_more true count n = sym (more_next count n)
-owing_more false count n = refl
+-- asks of one rule, counted one by one
+one_and_more : (b : Bool) (count n : ℕ)
+    → (if b then more count (if b then one_more n else n) else (if b then one_more n else n)) ≡ (if b then more (suc count) n else n)
+one_and_more true count n = more_then count n
+one_and_more false count n = refl
 
--- one rule more, of the same place
-pub owing_one : (place count : ℕ) (first now : List ℕ) (deciders : List (Option ℕ)) (at : ℕ) (other : Option ℕ) → at < length deciders
-    → place_of (slice_index_or deciders at other) ≡ place
-    → AreOwing place count first (take at deciders) now → AreOwing place (count + 1) first (take (at + 1) deciders) now
-owing_one place count first now deciders at other within is p =
-    let done = take at deciders in
-    let by = slice_index_or deciders at other in
+none_more : (b : Bool) (n : ℕ) → n ≡ (if b then n else n)
+none_more true n = refl
+none_more false n = refl
+
+counted_same : (k count n : ℕ) (by : Option ℕ) → counted_by k n (replicate count by) ≡ (if place_of by == k then more count n else n)
+counted_same k zero n by = none_more (place_of by == k) n
+counted_same k (suc count) n by =
+    counted_same k count (if place_of by == k then one_more n else n) by ∙ one_and_more (place_of by == k) count n
+
+pub streak_counted : (by : Option ℕ) (count : ℕ) (before after : List ℕ)
+    → CountsMore (place_of by) count before after → AreCountedBy before (replicate count by) after
+streak_counted by count before after p = record {
+  places = p.places;
+  each = λ k within. p.each k within ∙ sym (counted_same k count (slice_index before k) by);
+}
+
+-- one streak more
+pub decided_next : (streaks : List Streak) (at : ℕ) (other : Streak) → at < length streaks
+    → decided_along (take (at + 1) streaks) ≡ decided_along (take at streaks) ++ decided_in (slice_index_or streaks at other)
+decided_next streaks at other within =
     let next : at + 1 ≡ suc at = omega arith in
-    let one : suc count ≡ count + 1 = omega arith in
-    let all : take (at + 1) deciders ≡ done ++ by ∷ [] = ap (λ (n : ℕ). take n deciders) next ∙ take-suc deciders at other within in record {
-      places = p.places;
-      each = λ k inside.
-          let n = slice_index now k in
-          ap (counted_by k (slice_index first k)) all
-          ∙ counted_along k (slice_index first k) done (by ∷ [])
-          ∙ ap (λ (c : ℕ). if place_of by == k then one_more c else c) (p.each k inside)
-          ∙ ap (λ (b : ℕ). if b == k then one_more (owing place count k n) else owing place count k n) is
-          ∙ owing_more (place == k) count n
-          ∙ ap (λ (c : ℕ). owing place c k n) one;
-    }
-
--- what was owing is added, and nothing is owing then of another place
-pub owing_paid : (place count other : ℕ) (first now new : List ℕ) (deciders : List (Option ℕ))
-    → AreOwing place count first deciders now → CountsMore place count now new → AreOwing other 0 first deciders new
-owing_paid place count other first now new deciders p q = record {
-  places = q.places ∙ p.places;
-  each = λ k within. p.each k within ∙ sym (q.each k (omega (arith, within, p.places))) ∙ same_if (other == k) (slice_index new k);
-}
-
-pub owing_counted : (place count : ℕ) (first now new : List ℕ) (deciders : List (Option ℕ))
-    → AreOwing place count first deciders now → CountsMore place count now new → AreCountedBy first deciders new
-owing_counted place count first now new deciders p q = record {
-  places = q.places ∙ p.places;
-  each = λ k within. sym (p.each k within ∙ sym (q.each k (omega (arith, within, p.places))));
-}
-
-pub owing_same : (place other count number : ℕ) (first now new : List ℕ) (deciders : List (Option ℕ)) → other ≡ place → number ≡ count → new ≡ now
-    → AreOwing place count first deciders now → AreOwing other number first deciders new
-owing_same place other count number first now new deciders places counts news p =
-    subst (λ (o : ℕ). AreOwing o number first deciders new) (sym places)
-    (subst (λ (n : ℕ). AreOwing place n first deciders new) (sym counts)
-    (subst (λ (l : List ℕ). AreOwing place count first deciders l) (sym news) p))
+    let one = slice_index_or streaks at other in
+    ap (λ (n : ℕ). decided_along (take n streaks)) next
+    ∙ ap decided_along (take-suc streaks at other within)
+    ∙ flat_map-append decided_in (take at streaks) (one ∷ [])
+    ∙ ap (λ (l : List (Option ℕ)). decided_along (take at streaks) ++ l) (append-nil (decided_in one))
 
 -- the asks by themselves
 counted_asked : (k count : ℕ) (all : List Asked) → counted_by k count (map (λ a. a.verdict.by) all) ≡ counted_on k count all

@@ -1,4 +1,5 @@
--- What `compare` prints of two configurations, and what it reports while it works, over the definitions of `gw_policy_review::comparison`.
+-- What `compare` prints of two configurations, as text and as JSON, and what it reports while it works, over the definitions of
+-- `gw_policy_review::comparison`.
 use Rattle.std.specs.Prelude.{◌≡◌, ◌<◌, ⊤, ℕ, Bool, true, false, List, [], ◌∷◌, ◌++◌, length, Result, Ok, Err, codes, decimal}
 use Rattle.std.specs.List.{flat_map}
 use Rattle.gw_ask_sets.specs.regions.Regions.{Region}
@@ -12,10 +13,13 @@ use Rattle.gw_policy_review.specs.declared.comparison.comparison.Compared.{Compa
 use Rattle.gw_policy_review.specs.declared.comparison.comparison.Compared.TheVariants as compared
 use Rattle.gw_configuration.specs.Configuration.{Configuration}
 use Rattle.gw_tools.specs.Asserting.{SaysAssertions}
+use Rattle.gw_tools.specs.Json.{AreComparisonLines}
 use Rattle.gw_ending.specs.declared.fault.Fault.{Fault}
 use Rattle.gw_ending.specs.declared.fault.Fault.TheVariants as fault
 use Rattle.gw_ending.specs.declared.reading.printing.Said.{Said}
 use Rattle.gw_tools.specs.Saying.{IsMemory, Says}
+use Rattle.gw_tools.specs.declared.comparing.Layout.{Layout}
+use Rattle.gw_tools.specs.declared.comparing.Layout.TheVariants as layout
 use Rattle.gw_tools.specs.declared.comparing.Limits.{Limits}
 use Rattle.gw_tools.specs.declared.placed.Placed.{Placed}
 
@@ -55,15 +59,24 @@ abbrev pub IsComparedBehind : (steps : Bool) → Manner → (front : List ℕ) �
 IsComparedBehind steps how front old new made text =
     (lines : List ℕ) × (is : IsComparisonText old new how made lines) × IsWithSteps steps is.steps (front ++ lines) text
 
--- how two are printed within these limits
-abbrev pub manner_within : Limits → (old new : Placed) → Manner
-manner_within limits old new = record { most = limits.most; old_lines = old.lines.items; new_lines = new.lines.items }
+-- how two are printed as text, in so many lines at most
+abbrev pub manner_within : (most : ℕ) → (old new : Placed) → Manner
+manner_within most old new = record { most = most; old_lines = old.lines.items; new_lines = new.lines.items }
 
--- what is printed of the two within these limits: first what is said of their assertions
-abbrev pub IsCompared : Limits → (old new : Placed) → Compared → List ℕ → Type 0
-IsCompared limits old new made text =
+-- what is printed of the two as text: first what is said of their assertions
+abbrev pub IsComparedAsText : (most : ℕ) → (steps : Bool) → (old new : Placed) → Compared → List ℕ → Type 0
+IsComparedAsText most steps old new made text =
     (front : List ℕ) × SaysAssertions old.config new.config front
-    × IsComparedBehind limits.steps (manner_within limits old new) front old.config new.config made text
+    × IsComparedBehind steps (manner_within most old new) front old.config new.config made text
+
+-- what is printed of the two in this layout
+abbrev pub IsComparedAs : Layout → (most : ℕ) → (old new : Placed) → Compared → List ℕ → Type 0
+IsComparedAs (layout.Text steps) most old new made text = IsComparedAsText most steps old new made text
+IsComparedAs layout.Json most old new made text = AreComparisonLines old.config new.config most made text
+
+-- and within these limits
+abbrev pub IsCompared : Limits → (old new : Placed) → Compared → List ℕ → Type 0
+IsCompared limits old new made text = IsComparedAs limits.layout limits.most old new made text
 
 -- how a comparison ends
 abbrev pub outcome_of_comparison : Compared → Result (Unit {0}) Fault

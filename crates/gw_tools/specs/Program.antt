@@ -17,6 +17,8 @@ use Rattle.gw_ending.specs.declared.fault.Fault.TheVariants as fault
 use Rattle.gw_tools.specs.Asking.{Answers, Counts, ReportsUnread, asks_in}
 use Rattle.gw_ending.specs.reading.Configured.{IsConfigured}
 use Rattle.gw_tools.specs.Placed.{IsPlacedIn}
+use Rattle.gw_tools.specs.declared.comparing.Layout.TheVariants as layout
+use Rattle.gw_tools.specs.declared.comparing.Limits.{Limits}
 use Rattle.gw_tools.specs.declared.placed.Placed.{Placed}
 use Rattle.gw_verdicts.specs.Why.{said_text}
 use Rattle.gw_tools.specs.Ending.{PlaceBy, chosen, error_text_by, status_by, usage_of}
@@ -26,7 +28,7 @@ use Rattle.gw_policy_drafts.specs.declared.suggestion.suggestion.Manner.{Manner}
 use Rattle.gw_tools.specs.Translating.{Translates}
 use Rattle.gw_tools.specs.Checked.{SaysChecked}
 use Rattle.gw_tools.specs.Comparing.{IsCompared, ReportsProgress, SaysCompared}
-use Rattle.gw_tools.specs.Json.{AreComparisonLines, IsMade, SaysCheckedInJson}
+use Rattle.gw_tools.specs.Json.{IsMade, SaysCheckedInJson}
 use Rattle.gw_tools.specs.Kept.{SaysStateIn}
 use Rattle.gw_tools.specs.Questioning.{SaysAnswer, asked_text}
 use Rattle.gw_tools.specs.Reloading.{Replying, SaysReloadIn, SaysStatus, SaysStopped}
@@ -91,6 +93,15 @@ abbrev pub LeavesReload : (Reads : List ℕ → Result (List ℕ) Fault → Type
 LeavesReload Reads Answers file request was held holds reported outcome =
     (mid : Option (List ℕ)) × Prints (SaysReloadIn Reads Answers file request was held mid reported) mid holds outcome
 
+-- What `compare` leaves by the configurations of the files of these names, printed within these limits, and reports meanwhile.
+abbrev pub LeavesCompared : (Reads : List ℕ → Result (List ℕ) Fault → Type 0) → (old new : List ℕ) → Limits
+    → Option (List ℕ) → Option (List ℕ) → (reported : List ℕ) → Result (Unit {0}) Fault → Type 0
+LeavesCompared Reads old new limits held holds reported outcome =
+    (a : Result Placed Fault) × IsPlacedIn Reads old a
+    × (b : Result Placed Fault) × IsPlacedIn Reads new b
+    × Prints (SaysOfBoth (λ x y. SaysCompared (IsCompared limits x y)) a b) held holds outcome
+    × ReportsProgress a b reported
+
 -- What is on standard output, which held `held` before, if files give what `Reads`, `ReadsState` and `ReadsLog` say, and a request is
 -- answered what `Answers` says: what each command says of what the files give, after what it reports, or what it leaves if it writes
 -- as it reads; and at help its text, of which a failed write may leave a front. Words that choose nothing leave it as it was, and their
@@ -114,14 +125,11 @@ LeavesOutput Reads ReadsState ReadsLog Answers input held holds reported (Ok (ch
 LeavesOutput Reads ReadsState ReadsLog Answers input held holds reported (Ok (choice.Status request waits)) outcome =
     Prints (SaysStatus Answers (string_bytes request)) held holds outcome
 LeavesOutput Reads ReadsState ReadsLog Answers input held holds reported (Ok (choice.Compare old new most steps)) outcome =
-    (a : Result Placed Fault) × IsPlacedIn Reads (string_bytes old) a
-    × (b : Result Placed Fault) × IsPlacedIn Reads (string_bytes new) b
-    × Prints (SaysOfBoth (λ x y. SaysCompared (IsCompared (record { most = most; steps = steps }) x y)) a b) held holds outcome
-    × ReportsProgress a b reported
+    LeavesCompared Reads (string_bytes old) (string_bytes new) (record { most = most; layout = layout.Text steps })
+    held holds reported outcome
 LeavesOutput Reads ReadsState ReadsLog Answers input held holds reported (Ok (choice.CompareJson old new most)) outcome =
-    (a : Result Configuration Fault) × IsConfigured Reads (Some (string_bytes old)) a
-    × (b : Result Configuration Fault) × IsConfigured Reads (Some (string_bytes new)) b
-    × Prints (SaysOfBoth (λ x y. SaysCompared (AreComparisonLines x y most)) a b) held holds outcome
+    LeavesCompared Reads (string_bytes old) (string_bytes new) (record { most = most; layout = layout.Json })
+    held holds reported outcome
 LeavesOutput Reads ReadsState ReadsLog Answers input held holds reported (Ok (choice.Points file)) outcome =
     Prints (SaysIn Reads (string_bytes file) (λ c. SaysMade (IsMade (points_text c)))) held holds outcome
 LeavesOutput Reads ReadsState ReadsLog Answers input held holds reported (Ok (choice.Rules file)) outcome =
@@ -158,6 +166,7 @@ IsQuiet (Ok (choice.Why file counts strict)) said = ⊤
 IsQuiet (Ok (choice.Judge file strict)) said = ⊤
 IsQuiet (Ok (choice.Suggest file fills exact)) said = ⊤
 IsQuiet (Ok (choice.Compare old new most steps)) said = ⊤
+IsQuiet (Ok (choice.CompareJson old new most)) said = ⊤
 IsQuiet (Ok (choice.Reload config request was)) said = ⊤
 IsQuiet (Ok (choice.Init words)) said = ⊤
 IsQuiet _ said = said ≡ []

@@ -19,6 +19,7 @@ use Rattle.gw_tool_line.specs.declared.options.Shown.{Shown}
 use Rattle.gw_tools.specs.Comparing.{AreProgress, IsCompared, SaysCompared}
 use Rattle.gw_tools.specs.Placed.{IsPlaced, IsPlacedIn, octets_or}
 use Rattle.gw_tools.specs.Saying.{IsMemory, Says, SaysOf}
+use Rattle.gw_tools.specs.declared.comparing.Layout.TheVariants as layout
 use Rattle.gw_tools.specs.declared.placed.Placed.{Placed}
 
 -- ---- a request
@@ -99,7 +100,7 @@ SaysAfter Answers request text (Err f) said = SaysAfterFault (is_different f) An
 abbrev pub ShowsChange : Replying → (request text : List ℕ) → (most : ℕ) → (held mid : Option (List ℕ)) → (reported : List ℕ)
     → (old new : Placed) → Result Said Fault → Type 0
 ShowsChange Answers request text most held mid reported old new said =
-    (compared : Result Said Fault) × SaysCompared (IsCompared (record { most = most; steps = false }) old new) compared
+    (compared : Result Said Fault) × SaysCompared (IsCompared (record { most = most; layout = layout.Text false }) old new) compared
     × (shown : Result (Unit {0}) Fault) × LeavesSaid compared held mid shown × SaysAfter Answers request text shown said
     × AreProgress old.config new.config reported
 

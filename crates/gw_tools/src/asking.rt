@@ -42,11 +42,7 @@ fn why<R: OctetSource, W: Write + Drop>(
 
 /// What `why --count` says of the asks that `reader` has left: how many of them each of these rules decides, in lines. Faults: `Line`
 /// with the first that says no ask, `Read`, and `Memory`.
-fn count<R: OctetSource>(
-    alloc: Global,
-    rules: &RuleList,
-    reader: &mut R,
-) -> Result<Said, Fault>
+fn count<R: OctetSource>(alloc: Global, rules: &RuleList, reader: &mut R) -> Result<Said, Fault>
     ensures { (text : List ℕ) → R.left reader.old ≡ Some text → SaysMade (Counts rules.now text) result }
 {
     match count_asks(alloc, rules, reader) {

@@ -5,14 +5,16 @@ ghost use Rattle.std.specs.Io.KnownBytes.{Appends};
 ghost use Rattle.gw_ending.specs.declared.fault.Fault.TheVariants as fault;
 ghost use Rattle.gw_policy_review.specs.comparison.Comparing.{IsUnderWay};
 ghost use Rattle.gw_policy_review.specs.comparison.Comparison.{manner_of};
-ghost use Rattle.gw_tools.specs.Comparing.{AreProgress, IsCompared, IsComparedBehind, ReportsProgress, SaysCompared};
-ghost use Rattle.gw_tools.specs.Comparing.{outcome_of_comparison, progress_line};
+ghost use Rattle.gw_tools.specs.Comparing.{AreProgress, IsCompared, IsComparedAsText, IsComparedBehind, ReportsProgress};
+ghost use Rattle.gw_tools.specs.Comparing.{SaysCompared, outcome_of_comparison, progress_line};
+ghost use Rattle.gw_tools.specs.Placed.{IsPlacedIn};
 ghost use Rattle.gw_tools.specs.Saying.{SaysOfBoth};
 
 use crate::asserting::put_assertions;
-use crate::placed::Placed;
+use crate::json::comparison_lines;
+use crate::placed::{Placed, placed_in};
 use gw_configuration::Config;
-use gw_ending::reading::Said;
+use gw_ending::reading::{ConfigFiles, Said};
 use gw_ending::{Fault, write_number};
 use gw_log_words::{Calendar, Moment};
 use gw_policy_review::comparison::{Compared, Comparing, Printing, put_steps};
@@ -25,13 +27,22 @@ const PORTION: u32 = 256;
 /// How many portions a comparison has at most: 65,536 steps, and a last look.
 const PORTIONS: u32 = 257;
 
+/// As what a comparison is printed.
+#[derive(Clone, Copy)]
+pub enum Layout {
+    /// As lines of text. A last one says how many steps it took, if that is asked for.
+    Text { steps: bool },
+    /// As JSON objects. The last one says how many steps it took.
+    Json,
+}
+
 /// What is printed of a comparison.
 #[derive(Clone, Copy)]
 pub struct Limits {
     /// How many lines there are at most, or of each group.
     pub most: u64,
-    /// Whether a last line says how many steps it took.
-    pub steps: bool,
+    /// As what they are printed.
+    pub layout: Layout,
 }
 
 /// The text of a comparison, and how the two compare.
@@ -53,6 +64,17 @@ pub struct Sides<'a> {
 pub struct Both {
     pub old: Result<Placed, Fault>,
     pub new: Result<Placed, Fault>,
+}
+
+/// Those of the files of these names.
+pub fn both_in<F: ConfigFiles>(alloc: Global, files: &F, old: &str, new: &str) -> Both
+    ensures old { IsPlacedIn (F.Reads files.now) old.now result.old }
+    ensures new { IsPlacedIn (F.Reads files.now) new.now result.new }
+{
+    Both {
+        old: placed_in(alloc, files, old),
+        new: placed_in(alloc, files, new),
+    }
 }
 
 /// A calendar that is looked at again and again.
@@ -201,7 +223,49 @@ fn lines_of(
     Ok(Lines { text, made })
 }
 
-/// What became of the assertions of two configurations, what their rules decide otherwise, and once a second how far that is.
+/// What is printed of a comparison of two configurations that is at its end, as text: first what became of their assertions.
+fn lines_as_text(
+    alloc: Global,
+    most: u64,
+    steps: bool,
+    sides: &Sides<'_>,
+    comparing: Comparing<'_>,
+) -> Result<Lines, AllocError>
+    ensures { IfOk result (λ lines. comparing.entry.old_one ≡ sides.now.old.now.config
+        → comparing.entry.new_one ≡ sides.now.new.now.config → IsUnderWay comparing.entry
+        → IsComparedAsText most steps sides.now.old.now sides.now.new.now lines.made lines.text.items) }
+{
+    let mut front = Vec::new(alloc);
+    put_assertions(alloc, &mut front, &sides.old.config, &sides.new.config)?;
+    let how = Printing {
+        most: most as usize,
+        old_lines: &sides.old.lines,
+        new_lines: &sides.new.lines,
+    };
+    lines_of(alloc, steps, how, front, comparing)
+}
+
+/// What is printed of a comparison of two configurations that is at its end.
+fn lines_as(
+    alloc: Global,
+    limits: Limits,
+    sides: &Sides<'_>,
+    comparing: Comparing<'_>,
+) -> Result<Lines, AllocError>
+    ensures { IfOk result (λ lines. comparing.entry.old_one ≡ sides.now.old.now.config
+        → comparing.entry.new_one ≡ sides.now.new.now.config → IsUnderWay comparing.entry
+        → IsCompared limits sides.now.old.now sides.now.new.now lines.made lines.text.items) }
+{
+    match limits.layout {
+        Layout::Text { steps } => lines_as_text(alloc, limits.most, steps, sides, comparing),
+        Layout::Json => {
+            let (old, new) = (&sides.old.config, &sides.new.config);
+            comparison_lines(alloc, limits.most as usize, old, new, comparing)
+        }
+    }
+}
+
+/// What is printed of two configurations, and once a second how far their comparison is.
 fn compared<C: Calendar, E: OctetSink>(
     alloc: Global,
     limits: Limits,
@@ -216,14 +280,7 @@ fn compared<C: Calendar, E: OctetSink>(
     ensures lasts { E.NeverFails errors.old → E.NeverFails errors.new }
 {
     let comparing = finished(alloc, &sides.old.config, &sides.new.config, seconds, errors)?;
-    let mut front = Vec::new(alloc);
-    put_assertions(alloc, &mut front, &sides.old.config, &sides.new.config)?;
-    let how = Printing {
-        most: limits.most as usize,
-        old_lines: &sides.old.lines,
-        new_lines: &sides.new.lines,
-    };
-    lines_of(alloc, limits.steps, how, front, comparing)
+    lines_as(alloc, limits, sides, comparing)
 }
 
 /// How a comparison ends: `OtherParts` if only other parts differ, and `Different` if an ask may be decided otherwise.
@@ -238,7 +295,7 @@ fn outcome_of(made: Compared) -> Result<(), Fault>
 }
 
 /// What is said of a comparison.
-pub fn said_of(lines: Lines) -> Said
+fn said_of(lines: Lines) -> Said
     ensures text { result.text ≡ lines.text }
     ensures ends { result.ends ≡ outcome_of_comparison lines.made }
     ensures unprinted { result.unprinted ≡ fault.Write }

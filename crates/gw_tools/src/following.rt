@@ -9,8 +9,8 @@ ghost use Rattle.gw_tools.specs.Reloading.{answers_by};
 use crate::asking::{Answering, answer_in};
 use crate::beginning::begin_site;
 use crate::checked::{Checking, check};
-use crate::comparing::{Both, Limits, Seconds, compare};
-use crate::json::{check_in_json, compare_in_json, say_points};
+use crate::comparing::{Layout, Limits, Seconds, both_in, compare};
+use crate::json::{check_in_json, say_points};
 use crate::kept::say_state;
 use crate::machine::Machine;
 use crate::objects;
@@ -108,21 +108,22 @@ pub fn follow<F: ConfigFiles, M: Machine, R: OctetSource, W: Write + Drop, E: Oc
                 steps,
             },
         ) => {
-            let both = Both {
-                old: placed_in(alloc, files, old),
-                new: placed_in(alloc, files, new),
-            };
             let limits = Limits {
                 most: *most,
-                steps: *steps,
+                layout: Layout::Text { steps: *steps },
             };
+            let both = both_in(alloc, files, old, new);
             let mut seconds = Seconds::new(machine.calendar());
             compare(alloc, limits, both, &mut seconds, &mut streams.errors)
         }
         Ok(Choice::CompareJson { old, new, most }) => {
-            let before = configuration_in(alloc, files, old);
-            let after = configuration_in(alloc, files, new);
-            compare_in_json(alloc, *most, before, after)
+            let limits = Limits {
+                most: *most,
+                layout: Layout::Json,
+            };
+            let both = both_in(alloc, files, old, new);
+            let mut seconds = Seconds::new(machine.calendar());
+            compare(alloc, limits, both, &mut seconds, &mut streams.errors)
         }
         Ok(Choice::Points(file)) => {
             let config = configuration_in(alloc, files, file);
@@ -158,13 +159,7 @@ pub fn follow<F: ConfigFiles, M: Machine, R: OctetSource, W: Write + Drop, E: Oc
             );
         }
         Ok(Choice::Objects(file)) => {
-            return objects::list_in(
-                alloc,
-                files,
-                file,
-                &mut streams.input,
-                &mut streams.output,
-            );
+            return objects::list_in(alloc, files, file, &mut streams.input, &mut streams.output);
         }
         Ok(Choice::Judge { file, strict }) => {
             return objects::judge_in(alloc, files, file, *strict, streams);

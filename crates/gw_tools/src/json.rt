@@ -3,25 +3,22 @@
 ghost use Rattle.std.specs.Prelude.{◌≡◌, ◌⊎◌, [], option_map, IfOk};
 ghost use Rattle.gw_json.specs.Check.{fault_value};
 ghost use Rattle.gw_json.specs.Document.{line_of};
-ghost use Rattle.gw_policy_review.specs.comparison.Comparison.{AreResults};
-ghost use Rattle.gw_policy_review.specs.comparison.PairLines.{known_of};
+ghost use Rattle.gw_policy_review.specs.comparison.Comparing.{IsUnderWay};
 ghost use Rattle.gw_report.specs.points.Points.{points_text};
 ghost use Rattle.gw_ending.specs.reading.Files.{result_map};
-ghost use Rattle.gw_tools.specs.Comparing.{SaysCompared};
 ghost use Rattle.gw_tools.specs.Json.{AreComparisonLines, FaultLine, IsFaultLine, IsMade, IsPartsLine, IsTextOf};
 ghost use Rattle.gw_tools.specs.Json.{SaysCheckedInJson, SaysConfigInJson, judged_line};
-ghost use Rattle.gw_tools.specs.Saying.{SaysMade, SaysOf, SaysOfBoth};
+ghost use Rattle.gw_tools.specs.Saying.{SaysMade, SaysOf};
 
 use crate::asserting::put_assertions;
-use crate::comparing::{Lines, said_of};
+use crate::comparing::Lines;
 use gw_ask_sets::assertions::{JUDGING_STEPS, Judged, judge};
-use gw_ask_sets::regions::MAX_STEPS;
 use gw_configuration::{Config, ConfigFault};
 use gw_ending::Fault;
 use gw_ending::reading::{Said, configuration_of, do_hold, said_of_judged};
 use gw_json::{ResultListing, put_check, put_differences, put_fault, put_results, unheld_line};
 use gw_policy_review::comparison::{
-    Comparing, Part, Results, differing_parts, judged_by, put_details, put_part_names,
+    Comparing, Part, differing_parts, judged_by, put_details, put_part_names,
 };
 use gw_policy_text::faults::explain;
 use gw_report::points::put_points;
@@ -127,28 +124,21 @@ fn parts_line(
     Ok(line)
 }
 
-/// What is found of what two configurations decide otherwise.
-fn results_of(alloc: Global, old: &Config, new: &Config) -> Result<Results, AllocError>
-    ensures { IfOk result (λ r. AreResults old.now new.now r.summary.found.items r.summary.left.items r.summary.steps (known_of r.pairs)) }
-{
-    let mut comparing = Comparing::new(alloc, old, new)?;
-    comparing.go_on(alloc, MAX_STEPS)?;
-    comparing.into_results(alloc)
-}
-
-/// In which parts two configurations differ, and what their rules decide otherwise, in at most so many lines of regions and of
-/// pairs of rules, and a last one.
-fn comparison_lines(
+/// In which parts two configurations differ, and what a comparison of them that is at its end found, in at most so many lines of
+/// regions and of pairs of rules, and a last one.
+pub fn comparison_lines(
     alloc: Global,
     most: usize,
     old: &Config,
     new: &Config,
+    comparing: Comparing<'_>,
 ) -> Result<Lines, AllocError>
-    ensures { IfOk result (λ lines. AreComparisonLines old.now new.now most lines.made lines.text.items) }
+    ensures { IfOk result (λ lines. comparing.entry.old_one ≡ old.now → comparing.entry.new_one ≡ new.now → IsUnderWay comparing.entry
+        → AreComparisonLines old.now new.now most lines.made lines.text.items) }
 {
     let differ = differing_parts(alloc, old, new)?;
     let mut text = parts_line(alloc, old, new, &differ)?;
-    let results = results_of(alloc, old, new)?;
+    let results = comparing.into_results(alloc)?;
     let listing = ResultListing {
         old: old.rules().rules(),
         new: new.rules().rules(),
@@ -163,25 +153,6 @@ fn comparison_lines(
         &results.pairs,
     );
     Ok(Lines { text, made })
-}
-
-/// What `compare --json` says of the two configurations that were read. Faults: why there is no first or no second one, and `Memory`.
-pub fn compare_in_json(
-    alloc: Global,
-    most: u64,
-    old: Result<Config, Fault>,
-    new: Result<Config, Fault>,
-) -> Result<Said, Fault>
-    ensures { SaysOfBoth (λ old new. SaysCompared (AreComparisonLines old new most)) old new result }
-{
-    let old = old?;
-    match new {
-        Ok(new) => {
-            let lines = comparison_lines(alloc, most as usize, &old, &new)?;
-            Ok(said_of(lines))
-        }
-        Err(fault) => Err(fault.of_other()),
-    }
 }
 
 /// What `objects --csv` says of the configuration that was read: the list of its objects. Faults: why there is none, and `Memory`.

@@ -47,11 +47,7 @@ pub fn placed_of(alloc: Global, text: &Result<Vec<u8>, Fault>) -> Result<Placed,
 }
 
 /// That of the file of this name. Faults: `Unreadable`, `Configuration` and `Memory`.
-pub fn placed_in<F: ConfigFiles>(
-    alloc: Global,
-    files: &F,
-    name: &str,
-) -> Result<Placed, Fault>
+pub fn placed_in<F: ConfigFiles>(alloc: Global, files: &F, name: &str) -> Result<Placed, Fault>
     ensures { IsPlacedIn (F.Reads files.now) name.now result }
 {
     let text = files.read(alloc, name);

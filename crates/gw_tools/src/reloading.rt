@@ -9,7 +9,7 @@ ghost use Rattle.gw_tools.specs.Reloading.{IsAnswerTo, IsHeldTo, SaysAfter, Says
 ghost use Rattle.gw_tools.specs.Reloading.{SaysStatus, SaysStopped, ShowsReload, answers_by, outcome_of_answer};
 ghost use Rattle.gw_tools.specs.Saying.{SaysOf};
 
-use crate::comparing::{Both, Limits, Seconds, Sides, say_compared};
+use crate::comparing::{Both, Layout, Limits, Seconds, Sides, say_compared};
 use crate::machine::Machine;
 use crate::placed::{octets_or, placed_in, placed_of};
 use gw_ask_sets::assertions::{JUDGING_STEPS, judge};
@@ -212,7 +212,10 @@ fn reload_shown<M: Machine, R, W: Write + Drop, E: OctetSink>(
     }
     match both.old {
         Ok(old) => {
-            let limits = Limits { most, steps: false };
+            let limits = Limits {
+                most,
+                layout: Layout::Text { steps: false },
+            };
             let mut seconds = Seconds::new(asked.machine.calendar());
             let sides = Sides {
                 old: &old,

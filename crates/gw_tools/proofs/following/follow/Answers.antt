@@ -15,7 +15,7 @@ use Rattle.gw_tools.specs.Asking.{asks_in}
 use Rattle.gw_tools.specs.Beginning.{SaysBegun, text_of}
 use Rattle.gw_tools.specs.Checked.{SaysChecked}
 use Rattle.gw_tools.specs.Comparing.{IsCompared, SaysCompared}
-use Rattle.gw_tools.specs.Json.{AreComparisonLines, IsMade, SaysCheckedInJson}
+use Rattle.gw_tools.specs.Json.{IsMade, SaysCheckedInJson}
 use Rattle.gw_tools.specs.Kept.{SaysStateIn}
 use Rattle.gw_tools.specs.Objects.{LeavesJudgedIn}
 use Rattle.gw_tools.specs.Placed.{IsPlacedIn}
@@ -26,6 +26,7 @@ use Rattle.gw_tools.specs.Reporting.{IsPageOf}
 use Rattle.gw_tools.specs.Rewritten.{IsListed, SaysMigrated}
 use Rattle.gw_tools.specs.Saying.{SaysIn, SaysMade, SaysOf, SaysOfBoth, SaysOfFile, SaysPlacedIn}
 use Rattle.gw_tools.specs.declared.asking.Answering.{Answering}
+use Rattle.gw_tools.specs.declared.comparing.Layout.TheVariants as layout
 use Rattle.gw_tools.specs.declared.comparing.Limits.{Limits}
 use Rattle.gw_notices.proofs.AppendLemmas.{appends_nothing}
 use Rattle.gw_tools.proofs.ChoiceLemmas.{followed, left, printed, reported, unreported}
@@ -163,9 +164,11 @@ returns-clause-followed g c =
           w.reload_in-said.result) w.deref-in-Ok-Reload.ensures done.1 in
           let both = subst (λ (name : List ℕ). SaysReloadIn reads answers (string_bytes config) name shown held there done.0
           w.reload_in-said.result) w.deref-in-Ok-Reload-2.ensures named in
-          reported _ _ c.args.choice.now (Ok (choice.Reload config request shown)) outcome done.0 is tt
-          (there, printed (SaysReloadIn reads answers (string_bytes config) (string_bytes request) shown held there done.0) said
-          w.reload_in-said.result there mid holds outcome w.said-is (ap (λ s. contents s.output) w.streams-is) leaves both)
+          reported _ _ c.args.choice.now (Ok (choice.Reload config request shown)) outcome done.0 is tt (
+            there,
+            printed (SaysReloadIn reads answers (string_bytes config) (string_bytes request) shown held there done.0) said
+                w.reload_in-said.result there mid holds outcome w.said-is (ap (λ s. contents s.output) w.streams-is) leaves both,
+          )
           (adds done.0 _ (ap (λ s. errors s.errors) w.streams-is) done.2)
       | in-Ok-Stop w ↦
           let request = w.in-Ok-Stop.request in
@@ -191,33 +194,31 @@ returns-clause-followed g c =
           let most = w.in-Ok-Compare.most in
           let steps = w.in-Ok-Compare.steps in
           let is : c.args.choice.now ≡ Ok (choice.Compare first second most steps) = search rules in
-          let limits : Limits = record { most = most; steps = steps } in
-          let old = w.placed_in.result in
-          let is_old = subst (λ (name : List ℕ). IsPlacedIn reads name old) w.deref-in-Ok-Compare.ensures
-          w.placed_in.ensures in
-          let new = w.placed_in-in-Ok-Compare.result in
-          let is_new = subst (λ (name : List ℕ). IsPlacedIn reads name new) w.deref-in-Ok-Compare-2.ensures
-          w.placed_in-in-Ok-Compare.ensures in
+          let limits : Limits = record { most = most; layout = layout.Text steps } in
+          let both = w.both_in-both.result in
+          let is_old = subst (λ (name : List ℕ). IsPlacedIn reads name both.old) w.deref-in-Ok-Compare.ensures w.both_in-both.ensures.old in
+          let is_new = subst (λ (name : List ℕ). IsPlacedIn reads name both.new) w.deref-in-Ok-Compare-2.ensures w.both_in-both.ensures.new in
           let done = w.compare-said.ensures.said in
-          let compared = says (SaysOfBoth (λ x y. SaysCompared (IsCompared limits x y)) old new) w.compare-said.result w.said-is
+          let compared = says (SaysOfBoth (λ x y. SaysCompared (IsCompared limits x y)) both.old both.new) w.compare-said.result w.said-is
           (ap (λ s. contents s.output) w.streams-is) w.compare-said.ensures.compared in
           reported _ _ c.args.choice.now (Ok (choice.Compare first second most steps)) outcome done.0 is tt
-          (old, is_old, new, is_new, compared, done.1) (adds done.0 _ (ap (λ s. errors s.errors) w.streams-is) done.2)
+          (both.old, is_old, both.new, is_new, compared, done.1) (adds done.0 _ (ap (λ s. errors s.errors) w.streams-is) done.2)
       | in-Ok-CompareJson w ↦
           let first = w.in-Ok-CompareJson.old in
           let second = w.in-Ok-CompareJson.new in
           let most = w.in-Ok-CompareJson.most in
           let is : c.args.choice.now ≡ Ok (choice.CompareJson first second most) = search rules in
-          let before = w.configuration_in-before.result in
-          let is_before = subst (λ (name : List ℕ). IsConfigured reads (Some name) before) w.deref-in-Ok-CompareJson.ensures
-          w.configuration_in-before.ensures in
-          let after = w.configuration_in-after.result in
-          let is_after = subst (λ (name : List ℕ). IsConfigured reads (Some name) after) w.deref-in-Ok-CompareJson-2.ensures
-          w.configuration_in-after.ensures in
-          let compared = says (SaysOfBoth (λ x y. SaysCompared (AreComparisonLines x y most)) before after) w.compare_in_json-said.result
-          w.said-is (ap (λ s. contents s.output) w.streams-is) w.compare_in_json-said.ensures in
-          followed _ _ c.args.choice.now (Ok (choice.CompareJson first second most)) outcome is refl
-          (before, is_before, after, is_after, compared) (quiet (ap (λ s. errors s.errors) w.streams-is))
+          let limits : Limits = record { most = most; layout = layout.Json } in
+          let both = w.both_in-both-in-Ok-CompareJson.result in
+          let is_old = subst (λ (name : List ℕ). IsPlacedIn reads name both.old) w.deref-in-Ok-CompareJson.ensures
+          w.both_in-both-in-Ok-CompareJson.ensures.old in
+          let is_new = subst (λ (name : List ℕ). IsPlacedIn reads name both.new) w.deref-in-Ok-CompareJson-2.ensures
+          w.both_in-both-in-Ok-CompareJson.ensures.new in
+          let done = w.compare-said-in-Ok-CompareJson.ensures.said in
+          let compared = says (SaysOfBoth (λ x y. SaysCompared (IsCompared limits x y)) both.old both.new) w.compare-said-in-Ok-CompareJson.result
+          w.said-is (ap (λ s. contents s.output) w.streams-is) w.compare-said-in-Ok-CompareJson.ensures.compared in
+          reported _ _ c.args.choice.now (Ok (choice.CompareJson first second most)) outcome done.0 is tt
+          (both.old, is_old, both.new, is_new, compared, done.1) (adds done.0 _ (ap (λ s. errors s.errors) w.streams-is) done.2)
       | in-Ok-Points w ↦
           let file = w.in-Ok-Points.file in
           let is : c.args.choice.now ≡ Ok (choice.Points file) = search rules in

@@ -1,6 +1,7 @@
 use Rattle.std.proofs.Common.{◌≡◌, ◌∙◌, ◌++◌, ℕ, List, ap, arith, length, subst}
 use Rattle.gw_json.specs.Results.{results_lines}
-use Rattle.gw_policy_review.specs.comparison.Comparison.{judged_by}
+use Rattle.gw_configuration.specs.Configuration.{Configuration}
+use Rattle.gw_policy_review.specs.comparison.Comparison.{AreResults, judged_by}
 use Rattle.gw_policy_review.specs.comparison.PairLines.{known_of}
 use Rattle.gw_policy_review.specs.declared.comparison.parts.Part.{Part}
 use Rattle.gw_rules.specs.declared.rule.Rule.{Rule}
@@ -8,13 +9,14 @@ use Rattle.gw_tools.specs.Json.{IsPartsLine}
 use Rattle.gw_tools.proofs.json.comparison_lines.Goals as goal
 
 pub returns : goal.returns
-returns c =
+returns c = λ is_first is_second under.
     let old = c.args.old.now in
     let new = c.args.new.now in
     let before = c.rules-2.result.now in
     let after = c.rules-4.result.now in
     let differ = c.in_ok-differ.differ.items in
     let ahead = c.in_ok-text.text.items in
+    let at = c.args.comparing in
     let results = c.in_ok-results.results in
     let summary = results.summary in
     let found = summary.found.items in
@@ -35,7 +37,9 @@ returns c =
       left = left;
       steps = summary.steps;
       pairs = known;
-      results = c.in_ok-results.ensures;
+      results = subst (λ (one : Configuration). AreResults one new found left summary.steps known) is_first
+          (subst (λ (other : Configuration). AreResults at.old_one other found left summary.steps known) is_second
+          (c.in_ok-results.ensures.results under));
       verdict = c.judged_by-made.ensures ∙ ap (λ (n : ℕ). judged_by n c.len-2.result c.len-3.result known) is_differ
           ∙ ap (λ (n : ℕ). judged_by (length differ) n c.len-3.result known) is_found
           ∙ ap (λ (n : ℕ). judged_by (length differ) (length found) n known) is_left;

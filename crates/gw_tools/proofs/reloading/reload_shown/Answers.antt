@@ -6,6 +6,7 @@ use Rattle.gw_notices.proofs.AppendLemmas.{appends_nothing}
 use Rattle.gw_script.proofs.Passing.{passes_on}
 use Rattle.gw_tools.specs.Comparing.{AreProgress, IsCompared, SaysCompared}
 use Rattle.gw_tools.specs.Reloading.{IsHeldTo, ShowsChange, ShowsReload, answers_by}
+use Rattle.gw_tools.specs.declared.comparing.Layout.TheVariants as layout
 use Rattle.gw_tools.specs.declared.comparing.Limits.{Limits}
 use Rattle.gw_tools.specs.declared.placed.Placed.{Placed}
 use Rattle.gw_tools.proofs.reloading.reload_shown.Goals as goal
@@ -16,7 +17,7 @@ returns-in-Ok-clause-shown g c =
     let request = c.args.asked.now.request.now in
     let text = c.args.asked.now.text.now in
     let most = c.args.most in
-    let limits : Limits = record { most = most; steps = false } in
+    let limits : Limits = record { most = most; layout = layout.Text false } in
     let held = writer_contents g.W.Write.contents c.args.streams.now.output in
     let mid = writer_contents g.W.Write.contents c.print_said-shown.new.output in
     let old = c.in-Ok.old in
