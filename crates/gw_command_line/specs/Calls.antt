@@ -50,7 +50,8 @@ pub record CallsAreTaken : Type 0 where
     metrics = None;
   })
   pub run_whole : Calls
-      (codes "run" ∷ on_site (codes "--log" ∷ codes "denials.log" ∷ codes "--on-log-failure" ∷ codes "hold" ∷ codes "--turns" ∷ codes "100" ∷ codes "--verbose"
+      (codes "run" ∷ on_site (codes "--log" ∷ codes "denials.log" ∷ codes "--on-log-failure" ∷ codes "hold"
+      ∷ codes "--turns" ∷ codes "100" ∷ codes "--verbose"
       ∷ codes "--stats" ∷ codes "60" ∷ codes "--stats-rules" ∷ codes "--state" ∷ codes "state.txt"
       ∷ codes "--reload" ∷ codes "again" ∷ codes "--trial" ∷ codes "new.toml" ∷ codes "--trial-log" ∷ codes "new.log"
       ∷ codes "--trial-all" ∷ codes "--audit" ∷ codes "writes.log" ∷ codes "--stamp" ∷ codes "--metrics" ∷ codes "bacgw.prom"

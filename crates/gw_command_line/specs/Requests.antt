@@ -1,5 +1,6 @@
 -- What a call of the program asks for, by the name of its command and the values of its options.
-use Rattle.std.specs.Prelude.{not, ◌&&◌, ℕ, Bool, true, false, List, [], ◌++◌, nat_eq, if◌then◌else◌, is_none, is_some, Option, Some, None, Result, Ok, Err, codes}
+use Rattle.std.specs.Prelude.{not, ◌&&◌, ℕ, Bool, true, false, List, [], ◌++◌, nat_eq, if◌then◌else◌, is_none, is_some, Option, Some, None}
+use Rattle.std.specs.Prelude.{Result, Ok, Err, codes}
 use Rattle.std.specs.Cmp.Lexicographic.{pointwise}
 use Rattle.clap.specs.Words.{Row, Text, first_of, subcommand_of}
 use Rattle.gw_command_line.specs.Commands.{commands}

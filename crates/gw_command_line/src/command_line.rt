@@ -3,8 +3,8 @@
 ghost use Rattle.std.specs.Prelude.{◌≡◌, ◌++◌, ◌<◌, ◌^◌, map, option_map, string_bytes, IfOk, IfSome, OnOk};
 ghost use Rattle.clap.specs.Words.{first_value, found_of, kind_of, subcommand_rows_of};
 ghost use Rattle.gw_command_line.specs.CommandLine.{AskFor, Chooses, IsAnswer, IsChosen, IsRefusal, service};
-ghost use Rattle.gw_command_line.specs.Requests.{Request, are_paired, asked, asked_by, asked_of_file, files_of, judged, lacking_of, mistake_of};
-ghost use Rattle.gw_command_line.specs.Requests.{kept_of, logs_of, run_asked, service_at};
+ghost use Rattle.gw_command_line.specs.Requests.{Request, are_paired, asked, asked_by, asked_of_file, files_of, judged, lacking_of};
+ghost use Rattle.gw_command_line.specs.Requests.{mistake_of, kept_of, logs_of, run_asked, service_at};
 
 use crate::commands::make_commands;
 use crate::moved::moved_command;

@@ -34,7 +34,8 @@ verdict_text rules ask = judged_text rules (allows rules ask) (first rules ask)
 -- is quiet, so that the log has no such denial
 abbrev pub ask_line : List Rule → Source → Ask → List ℕ
 ask_line rules source ask =
-    codes "ask " ++ ask_text source ask ++ codes " " ++ verdict_text rules ask ++ quiet_mark (is_quiet_by rules (first rules ask)) ++ 10 ∷ []
+    codes "ask " ++ ask_text source ask ++ codes " " ++ verdict_text rules ask
+    ++ quiet_mark (is_quiet_by rules (first rules ask)) ++ 10 ∷ []
 
 -- a line for each ask of a datagram that claims to come from there
 abbrev pub ask_lines : List Rule → Option Origin → List Ask → List ℕ

@@ -65,7 +65,8 @@ pub(crate) trait Reporter: Asker + Drop {
         ensures silent { Self.kept self ≡ [] → IsOk result };
 
     /// If nothing is asked, it says the same whoever it comes from.
-    ghost unasked: { (picks : Verdict → Bool) (from : Option Origin) (rules : List Rule) → asked picks from rules [] ≡ asked picks None rules [] };
+    ghost unasked: { (picks : Verdict → Bool) (from : Option Origin) (rules : List Rule)
+        → asked picks from rules [] ≡ asked picks None rules [] };
 }
 
 /// It says nothing but what was refused.

@@ -44,7 +44,8 @@ pub trait Guard {
         asked: Option<&SeenAsks>,
     ) -> bool
         ensures { (w : State) (event : Event) → IsTaken w event gateway.now taken.now →
-            IsSeen (watching self.old) (keeps self.old) w event (option_map (λ a. a.now) asked.entry) → Passes self.old w event self.new result };
+            IsSeen (watching self.old) (keeps self.old) w event (option_map (λ a. a.now) asked.entry)
+            → Passes self.old w event self.new result };
 }
 
 /// No guard: all datagrams may go.

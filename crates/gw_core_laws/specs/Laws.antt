@@ -13,12 +13,12 @@ use Rattle.gw_relay.specs.State.{Relay, later}
 use Rattle.gw_relay.specs.Steps.{Step}
 use Rattle.gw_core.specs.declared.effects.Effects.{Effects}
 use Rattle.gw_core.specs.declared.event.Counts.{Counts}
-use Rattle.gw_script.specs.Event.{Event}
-use Rattle.gw_script.specs.Event.{Datagram, Tick}
+use Rattle.gw_script.specs.Event.{Event, Datagram, Tick}
 use Rattle.gw_configuration.specs.Configuration.{Configuration, keeps_limits}
 use Rattle.gw_rules.specs.declared.format.Format.{Format}
 use Rattle.gw_rules.specs.declared.format.Format.TheVariants.{One, Three}
-use Rattle.gw_core.specs.History.{log, RoutesStand, TablesStand, WritesStand, learnings, port_acts, writes, state_after, run, history_after, IsStep, IsStateAfter, effects, run_after, run_from, state_from, next}
+use Rattle.gw_core.specs.History.{log, RoutesStand, TablesStand, WritesStand, learnings, port_acts, writes, state_after, run, history_after}
+use Rattle.gw_core.specs.History.{IsStep, IsStateAfter, effects, run_after, run_from, state_from, next}
 use Rattle.gw_frames.specs.npdu.Npdu.{Address}
 use Rattle.gw_relay.specs.Entry.{comes_by_route, enters, entry_asks}
 use Rattle.gw_relay.specs.Laws.{Reaches, is_unicast}
@@ -44,8 +44,7 @@ use Rattle.gw_core.specs.Asks.{asks, cast_asks_for, manage_asks_for, route_asks_
 use Rattle.gw_core.specs.Denials.{rule_name}
 use Rattle.gw_core_laws.specs.FormatOne.{before_two}
 use Rattle.gw_core_laws.specs.FormatTwo.{asked_by, asked_from, before_three, effects_by, left_by, received_before, run_by}
-use Rattle.gw_core.specs.Effects.{NeedsNoMemory, cast_sends_for, change_at, effects_at, manage_sends_for, move_at}
-use Rattle.gw_core.specs.Effects.{nothing, route_sends_for}
+use Rattle.gw_core.specs.Effects.{NeedsNoMemory, cast_sends_for, change_at, effects_at, manage_sends_for, move_at, nothing, route_sends_for}
 use Rattle.gw_relay.specs.Message.{Message}
 use Rattle.gw_core.specs.Receive.{Received, dropped, message, receive}
 use Rattle.gw_core.specs.State.{State}

@@ -10,7 +10,8 @@ use Rattle.gw_core.specs.History.{log, run_from, state_from, next}
 use Rattle.gw_core.specs.Marked.{kept}
 use Rattle.gw_core.specs.Receive.{receive}
 use Rattle.gw_core.specs.State.{State}
-use Rattle.gw_core_laws.specs.FormatThree.{AreTakenAlike, HaveNoStations, NameNoStation, before, claimed_from, unstationed, unstationed_effects}
+use Rattle.gw_core_laws.specs.FormatThree.{AreTakenAlike, HaveNoStations, NameNoStation, before, claimed_from, unstationed}
+use Rattle.gw_core_laws.specs.FormatThree.{unstationed_effects}
 use Rattle.gw_core_laws.specs.FormatOne.{before_two}
 use Rattle.gw_core_laws.specs.FormatTwo.{asked_by, asked_from, before_three, left_by, run_by}
 use Rattle.gw_core_laws.specs.Laws.{is_tick, numbers_from, under}
@@ -94,9 +95,10 @@ WritesGoUnread = (w : State) (o : Object) (marks : List Bool) (l : List Event) �
 
 -- and so if it claims to come from one of those that may not read it.
 abbrev pub WritesGoHidden : Type 0
-WritesGoHidden = (w : State) (sources : List Source) (o : Object) (marks : List Bool) (l : List Event) → AreBlind w.relay.format w.rules sources o →
-    LeavesOutFrom (IsWriteOf o) w marks l → (place : ℕ) (e : Event) → slice_get (kept marks l) place ≡ Some e →
-    IfSome (claim (receive (state_at w marks l place) e)) (Contains sources) → SeenAlikeFrom w marks l place
+WritesGoHidden = (w : State) (sources : List Source) (o : Object) (marks : List Bool) (l : List Event) →
+    AreBlind w.relay.format w.rules sources o → LeavesOutFrom (IsWriteOf o) w marks l
+    → (place : ℕ) (e : Event) → slice_get (kept marks l) place ≡ Some e
+    → IfSome (claim (receive (state_at w marks l place) e)) (Contains sources) → SeenAlikeFrom w marks l place
 
 -- Where all that is left out are datagrams that may change nothing, every event is seen to do the same.
 abbrev pub QuietGoesUnseen : Type 0

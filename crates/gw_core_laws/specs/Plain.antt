@@ -22,7 +22,8 @@ use Rattle.gw_core.specs.declared.effects.Effects.{Effects}
 use Rattle.gw_core.specs.Asks.{message_asks}
 use Rattle.gw_core.specs.Denials.{denials_of}
 use Rattle.gw_core.specs.Effects.{change_for, changed, message_sends, ticks_of}
-use Rattle.gw_core.specs.Receive.{Received, admit, barred, comes_in, dropped, managed, manages, message, npdu_of, origin, payload_of, unregistered}
+use Rattle.gw_core.specs.Receive.{Received, admit, barred, comes_in, dropped, managed, manages, message, npdu_of, origin, payload_of}
+use Rattle.gw_core.specs.Receive.{unregistered}
 use Rattle.gw_core.specs.State.{State, device_network}
 use Rattle.gw_script.specs.Event.{Event, Datagram, Tick}
 

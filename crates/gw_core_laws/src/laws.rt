@@ -3,35 +3,32 @@
 ghost use Rattle.std.specs.Prelude.{◌≡◌};
 ghost use Rattle.gw_core_laws.specs.Decisions.{SameDecisionsDoAlike, SameDecisionsRunAlike, SameDecisionsRunSendAlike};
 ghost use Rattle.gw_core_laws.specs.Decisions.{SameDecisionsSendAlike};
-ghost use Rattle.gw_core_laws.specs.Examples.{AllArePlaced, BroadcastIsDistributed, CountsEnd, DeniedSetIsRefused};
-ghost use Rattle.gw_core_laws.specs.Examples.{DeniedTableIsRefused, DeniedWriteIsUnseen, DenialsAreCountedOn};
-ghost use Rattle.gw_core_laws.specs.Examples.{EachCutIsDropped, GlobalWhoIsGoesOn, HiddenObjectIsUnnamed};
-ghost use Rattle.gw_core_laws.specs.Examples.{HiddenReadIsDenied, HiddenWriteIsUnseen, HidingIsSeen, LearnedRouteIsTaken};
-ghost use Rattle.gw_core_laws.specs.Examples.{LocalReadIsUnheard, ReadIsAnswered, RegistrationEnds, RelinquishIsSeen};
-ghost use Rattle.gw_core_laws.specs.Examples.{RoutedReadIsAnswered, UnknownNetworkIsSought, UnknownObjectIsNamed};
-ghost use Rattle.gw_core_laws.specs.Examples.{WhoIsIsAnswered, WriteIsSeen, WrongLengthsAreDropped};
-ghost use Rattle.gw_core_laws.specs.Keys.{NoKeyStaysNone, ShortKeysAreThoseOfTwo, ShortRulesDecideAsBefore};
-ghost use Rattle.gw_core_laws.specs.Keys.{ShortRulesHideAsBefore, SixOctetsKeepTheirKey};
+ghost use Rattle.gw_core_laws.specs.Examples.{AllArePlaced, BroadcastIsDistributed, CountsEnd, DeniedSetIsRefused, DeniedTableIsRefused};
+ghost use Rattle.gw_core_laws.specs.Examples.{DeniedWriteIsUnseen, DenialsAreCountedOn, EachCutIsDropped, GlobalWhoIsGoesOn};
+ghost use Rattle.gw_core_laws.specs.Examples.{HiddenObjectIsUnnamed, HiddenReadIsDenied, HiddenWriteIsUnseen, HidingIsSeen};
+ghost use Rattle.gw_core_laws.specs.Examples.{LearnedRouteIsTaken, LocalReadIsUnheard, ReadIsAnswered, RegistrationEnds, RelinquishIsSeen};
+ghost use Rattle.gw_core_laws.specs.Examples.{RoutedReadIsAnswered, UnknownNetworkIsSought, UnknownObjectIsNamed, WhoIsIsAnswered};
+ghost use Rattle.gw_core_laws.specs.Examples.{WriteIsSeen, WrongLengthsAreDropped};
+ghost use Rattle.gw_core_laws.specs.Keys.{NoKeyStaysNone, ShortKeysAreThoseOfTwo, ShortRulesDecideAsBefore, ShortRulesHideAsBefore};
+ghost use Rattle.gw_core_laws.specs.Keys.{SixOctetsKeepTheirKey};
 ghost use Rattle.gw_core_laws.specs.Quiet.{NoQuietIsAsBefore, NoQuietRunsAsBefore, QuietRulesLogLess, QuietRulesRunLogLess};
 ghost use Rattle.gw_core_laws.specs.Reasons.{DropsHaveReasons};
-ghost use Rattle.gw_core_laws.specs.FormatThree.{AsksNameTheirSender, AsksNameTheirStation};
-ghost use Rattle.gw_core_laws.specs.FormatThree.{FormatThreeIsAsTwo, FormatThreeRunsAsTwo};
+ghost use Rattle.gw_core_laws.specs.FormatThree.{AsksNameTheirSender, AsksNameTheirStation, FormatThreeIsAsTwo, FormatThreeRunsAsTwo};
 ghost use Rattle.gw_core_laws.specs.NoLeak.{AnnouncementsAreUnread, AsksCarryTheirClaim, AsksHaveTheirOrigin, QuietIsUnseen};
 ghost use Rattle.gw_core_laws.specs.NoLeak.{WritesAreHidden, WritesAreUnread};
-ghost use Rattle.gw_core_laws.specs.Onward.{AnnouncementsGoUnread, DenialsGoOn, FormatOneGoesOn, FormatStaysOn, FormatThreeGoesOn, FormatTwoGoesOn};
-ghost use Rattle.gw_core_laws.specs.Onward.{LogGoesOn, PlainGoesOn, QuietGoesUnseen, TicksGoOn, WritesGoHidden, WritesGoUnread};
-ghost use Rattle.gw_core_laws.specs.Laws.{ActsLeaveTheTables, AllowedTrafficIsSent, ConfigurationStays};
-ghost use Rattle.gw_core_laws.specs.Laws.{DeniedAsksAreLogged, DeniedBroadcastsAreKept};
-ghost use Rattle.gw_core_laws.specs.Laws.{DeniedReadsAreRefused, DeniedWritesAreRefused, DenialsAreCounted};
-ghost use Rattle.gw_core_laws.specs.Laws.{DenialsHaveTheirTick, DroppedNeedsNoMemory, FormatOneIsAsBefore};
-ghost use Rattle.gw_core_laws.specs.Laws.{FormatOneRunsAsBefore, FormatStays, FormatTwoIsAsBefore, FormatTwoRunsAsBefore};
+ghost use Rattle.gw_core_laws.specs.Onward.{AnnouncementsGoUnread, DenialsGoOn, FormatOneGoesOn, FormatStaysOn, FormatThreeGoesOn};
+ghost use Rattle.gw_core_laws.specs.Onward.{FormatTwoGoesOn, LogGoesOn, PlainGoesOn, QuietGoesUnseen, TicksGoOn, WritesGoHidden};
+ghost use Rattle.gw_core_laws.specs.Onward.{WritesGoUnread};
+ghost use Rattle.gw_core_laws.specs.Laws.{ActsLeaveTheTables, AllowedTrafficIsSent, ConfigurationStays, DeniedAsksAreLogged};
+ghost use Rattle.gw_core_laws.specs.Laws.{DeniedBroadcastsAreKept, DeniedReadsAreRefused, DeniedWritesAreRefused, DenialsAreCounted};
+ghost use Rattle.gw_core_laws.specs.Laws.{DenialsHaveTheirTick, DroppedNeedsNoMemory, FormatOneIsAsBefore, FormatOneRunsAsBefore};
+ghost use Rattle.gw_core_laws.specs.Laws.{FormatStays, FormatTwoIsAsBefore, FormatTwoRunsAsBefore};
 ghost use Rattle.gw_core_laws.specs.Neighbours.{CarriedPortsAreBare, EachNetworkIsOnce, EventsLeaveThemBare, OwnNetworksAreUnnamed};
 ghost use Rattle.gw_core_laws.specs.Neighbours.{PlainIsAsBefore, PlainRunsAsBefore, PortsAreBare, TwoGatewaysStop};
 ghost use Rattle.gw_core_laws.specs.Laws.{FirstFormatsArePlain, FormatWasUnread, NoDeliveryOutside, NoForgedClaim, NoStranger};
-ghost use Rattle.gw_core_laws.specs.Laws.{LearningsLeaveTheRoutes, LogIsNumbered, NothingAskedIsChanged};
-ghost use Rattle.gw_core_laws.specs.Laws.{NothingAskedIsLogged, NothingAskedIsWritten, PortsStay, RelayTicksAreCounted};
-ghost use Rattle.gw_core_laws.specs.Laws.{RunsExtendHistories, StepsExtendHistories, TicksAreCounted};
-ghost use Rattle.gw_core_laws.specs.Laws.{TicksOnlyCount, WritesLeaveTheSlots};
+ghost use Rattle.gw_core_laws.specs.Laws.{LearningsLeaveTheRoutes, LogIsNumbered, NothingAskedIsChanged, NothingAskedIsLogged};
+ghost use Rattle.gw_core_laws.specs.Laws.{NothingAskedIsWritten, PortsStay, RelayTicksAreCounted, RunsExtendHistories};
+ghost use Rattle.gw_core_laws.specs.Laws.{StepsExtendHistories, TicksAreCounted, TicksOnlyCount, WritesLeaveTheSlots};
 ghost use Rattle.gw_core_laws.specs.Refused.{DeniedListingsAreSilent, DeniedManagementIsRefused, DeniedMembersAreRefused};
 ghost use Rattle.gw_core_laws.specs.Refused.{DeniedPropertiesAreRefused, OthersAreAnswered, RepliesAreTheirParts};
 
@@ -92,7 +89,8 @@ pub fn refusals()
 /// event changes the format of the configuration. Under the third, if no port has stations
 /// and no rule names a sender or a station, every event whose asks to claim are allowed, that is no broadcast of a
 /// request that reads or writes properties, and whose source has the same key in both formats, does what it does under the
-/// second, but for the sender and the station of each ask: the sender is that of the datagram, the station the one for which the message is bound.
+/// second, but for the sender and the station of each ask: the sender is that of the datagram, the station the one for which the
+/// message is bound.
 pub fn formats()
     ensures first { FormatOneIsAsBefore }
     ensures runs { FormatOneRunsAsBefore }

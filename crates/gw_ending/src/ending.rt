@@ -6,8 +6,8 @@ ghost use Rattle.std.specs.Process.{exit_status};
 ghost use Rattle.gw_ending.specs.declared.fault.Fault.TheVariants as fault;
 ghost use Rattle.gw_configuration.specs.Shown.{shown};
 ghost use Rattle.gw_notices.specs.Reload.{name_of};
-ghost use Rattle.gw_ending.specs.Ending.{cause_of, error_text, failed_line, line_by, line_of, named, reason_of, rest_naming, rest_of, status_after};
-ghost use Rattle.gw_ending.specs.Ending.{store_words, text_of, trial_rest, unread_line, words_of};
+ghost use Rattle.gw_ending.specs.Ending.{cause_of, error_text, failed_line, line_by, line_of, named, reason_of, rest_naming, rest_of};
+ghost use Rattle.gw_ending.specs.Ending.{status_after, store_words, text_of, trial_rest, unread_line, words_of};
 ghost use Rattle.gw_system.specs.Obstacle.{obstacle_words};
 
 use crate::fault::{

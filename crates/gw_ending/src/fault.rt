@@ -1,8 +1,9 @@
 //! Why the program ends without success, and its exit status.
 
 ghost use Rattle.std.specs.Prelude.{◌≡◌, ◌≢◌};
-ghost use Rattle.gw_ending.specs.Ending.{IsUnanswered, cause_of, fault_of, fault_of_configuration, fault_of_metrics, fault_of_request, fault_of_state, fault_of_store, fault_of_words, has_line, is_different, of_other, reason_of, status_of, status_of_trial, store_words, trial_reason, trial_words, words_of};
-ghost use Rattle.gw_ending.specs.Ending.{fault_of_lines};
+ghost use Rattle.gw_ending.specs.Ending.{IsUnanswered, cause_of, fault_of, fault_of_configuration, fault_of_metrics, fault_of_request};
+ghost use Rattle.gw_ending.specs.Ending.{fault_of_state, fault_of_store, fault_of_words, has_line, is_different, of_other, reason_of};
+ghost use Rattle.gw_ending.specs.Ending.{status_of, status_of_trial, store_words, trial_reason, trial_words, words_of, fault_of_lines};
 ghost use Rattle.gw_ending.specs.declared.fault.Fault.TheVariants.{CommandLine, Memory};
 
 use gw_command_line::options::WordsFault;

@@ -1,5 +1,6 @@
 -- What two policies decide otherwise: a JSON object for each region, and a last one that sums up.
-use Rattle.std.specs.Prelude.{ℕ, ◌-◌, Bool, false, ◌==◌, if◌then◌else◌, List, [], ◌∷◌, ◌++◌, drop, length, map, slice_get, codes, decimal, Option}
+use Rattle.std.specs.Prelude.{ℕ, ◌-◌, Bool, false, ◌==◌, if◌then◌else◌, List, [], ◌∷◌, ◌++◌, drop, length, map, slice_get, codes, decimal}
+use Rattle.std.specs.Prelude.{Option}
 use Rattle.std.specs.List.{flat_map, list_all}
 use Rattle.std.specs.Option.{option_map_or}
 use Rattle.std.specs.Str.Lines.{lines}
@@ -118,4 +119,5 @@ differences_value names details asserts = object_of (parts_members names details
 -- how many regions there are, whether they are all, and how many steps it took
 abbrev pub summary_value : ℕ → Bool → ℕ → Json
 summary_value kinds finished steps =
-    object_of ((codes "kinds", number (decimal kinds)) ∷ (codes "finished", boolean finished) ∷ (codes "steps", number (decimal steps)) ∷ [])
+    object_of ((codes "kinds", number (decimal kinds)) ∷ (codes "finished", boolean finished)
+    ∷ (codes "steps", number (decimal steps)) ∷ [])

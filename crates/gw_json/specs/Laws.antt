@@ -1,5 +1,6 @@
 -- What a reader of JSON (RFC 8259) finds in the lines.
-use Rattle.std.specs.Prelude.{◌≡◌, ℕ, ◌≤◌, ◌<◌, ◌^◌, Bool, true, false, IfSome, List, [], ◌∷◌, ◌++◌, length, take, All, Option, None, Some, codes}
+use Rattle.std.specs.Prelude.{◌≡◌, ℕ, ◌≤◌, ◌<◌, ◌^◌, Bool, true, false, IfSome, List, [], ◌∷◌, ◌++◌, length, take, All, Option, None, Some}
+use Rattle.std.specs.Prelude.{codes}
 use Rattle.std.specs.List.{AllByRecursion, flat_map}
 use Rattle.json.specs.Json.{Json, document}
 use Rattle.gw_audit.specs.Entry.{IsLineOf, IsShowable, ask_shown}
@@ -41,7 +42,8 @@ DenialsRead = (d : Denial) → IsShowable d → DenialReads d
 
 -- the object of a denial's line with nothing in front has what the line shows and that it was denied, and no more
 abbrev pub DenialsStay : Type 0
-DenialsStay = (d : Denial) (line text : List ℕ) → IsShowable d → IsLineOf line d → IsEntryIn line text → text ≡ line_of (denial_value false [] d)
+DenialsStay = (d : Denial) (line text : List ℕ) → IsShowable d → IsLineOf line d → IsEntryIn line text
+    → text ≡ line_of (denial_value false [] d)
 
 -- the object of a record of an audit says that the ask was allowed
 abbrev pub RecordsAllowed : Type 0

@@ -1,5 +1,6 @@
 -- What is found of what two policies decide otherwise, as JSON objects: regions, pairs of rules, and a last one.
-use Rattle.std.specs.Prelude.{ℕ, Bool, true, false, ◌==◌, if◌then◌else◌, List, [], ◌∷◌, ◌++◌, length, take, codes, decimal, Option, Some, None}
+use Rattle.std.specs.Prelude.{ℕ, Bool, true, false, ◌==◌, if◌then◌else◌, List, [], ◌∷◌, ◌++◌, length, take, codes, decimal, Option, Some}
+use Rattle.std.specs.Prelude.{None}
 use Rattle.std.specs.List.{flat_map}
 use Rattle.json.specs.Json.{Json, boolean, number, string}
 use Rattle.gw_ask_sets.specs.regions.Pairs.{Findings}
@@ -12,7 +13,8 @@ use Rattle.gw_rules.specs.declared.rule.Rule.{Rule}
 
 -- ---- pairs of rules
 
--- what the new policy says by the one rule, and the old one doesn't by the other, under the keys of a region; and an ask that the two decide
+-- what the new policy says by the one rule, and the old one doesn't by the other, under the keys of a region; and an ask that the two
+-- decide
 abbrev pub pair_members : List Rule → List Rule → ShownPair → List (List ℕ × Json)
 pair_members old new shown =
     (codes "verdict", string (verdict_word shown.pair.allows)) ∷ (codes "by", rules_value new (shown.pair.new ∷ []))

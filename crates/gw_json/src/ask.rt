@@ -2,7 +2,8 @@
 
 ghost use Rattle.std.specs.Prelude.{◌≡◌, string_bytes, IfOk};
 ghost use Rattle.gw_audit.specs.Line.{key_octets};
-ghost use Rattle.gw_json.specs.Ask.{ask_members, key_or_null, key_value, named_value, operation_value, station_of, station_value, station_word};
+ghost use Rattle.gw_json.specs.Ask.{ask_members, key_or_null, key_value, named_value, operation_value, station_of, station_value};
+ghost use Rattle.gw_json.specs.Ask.{station_word};
 ghost use Rattle.gw_json.specs.internal.View.{members_view, value_view};
 
 use crate::value::{Member, Value, number_value};

@@ -3,7 +3,8 @@
 ghost use Rattle.std.specs.Prelude.{◌≡◌, decimal, option_map, IfOk};
 ghost use Rattle.std.specs.Option.{option_map_or};
 ghost use Rattle.json.specs.Json.{null, number, string};
-ghost use Rattle.gw_json.specs.Check.{asserts_members, checked_value, device_value, fault_row, fault_value, format_number, manager_value, managers_value, networks_value, policy_members, way_members};
+ghost use Rattle.gw_json.specs.Check.{asserts_members, checked_value, device_value, fault_row, fault_value, format_number, manager_value};
+ghost use Rattle.gw_json.specs.Check.{managers_value, networks_value, policy_members, way_members};
 ghost use Rattle.gw_addr.specs.Address.{text_of};
 ghost use Rattle.gw_json.specs.Document.{IsLinePut, object_of};
 ghost use Rattle.gw_json.specs.internal.View.{members_view, value_view};

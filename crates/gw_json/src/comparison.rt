@@ -8,7 +8,10 @@ ghost use Rattle.gw_ask_sets.specs.regions.Ranges.{both};
 ghost use Rattle.gw_rules.specs.Bounds.{bounds};
 ghost use Rattle.gw_rules.specs.declared.format.Format.TheVariants.{Three};
 ghost use Rattle.gw_rules.specs.declared.operation.TheConstants.Operation.{ALL};
-ghost use Rattle.gw_json.specs.Comparison.{assertions_members, deciders_members, differences_value, end_value, field_member, found_value, is_nothing, lines_value, name_or_null, named_operation, operations_value, other_fields, parts_members, range_value, range_values, ranges_value, rule_value, rules_value, summary_value, values_value, outcome_members, verdict_word};
+ghost use Rattle.gw_json.specs.Comparison.{assertions_members, deciders_members, differences_value, end_value, field_member, found_value};
+ghost use Rattle.gw_json.specs.Comparison.{is_nothing, lines_value, name_or_null, named_operation, operations_value, other_fields};
+ghost use Rattle.gw_json.specs.Comparison.{parts_members, range_value, range_values, ranges_value, rule_value, rules_value, summary_value};
+ghost use Rattle.gw_json.specs.Comparison.{values_value, outcome_members, verdict_word};
 ghost use Rattle.gw_json.specs.Document.{IsLinePut, items_of, object_of};
 ghost use Rattle.gw_json.specs.internal.View.{members_view, value_view, values_view};
 

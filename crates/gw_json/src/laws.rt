@@ -1,6 +1,8 @@
 //! Laws of the lines. The functions change nothing and answer nothing: their contracts are the laws.
 
-ghost use Rattle.gw_json.specs.Laws.{AnswersRead, AnswersStay, ChecksRead, ComparisonsRead, DenialsRead, DenialsStay, DifferencesRead, DifferencesStay, FaultsRead, GivenUpRead, OthersRead, PairedRead, PairsRead, RecordsAllowed, RegionsStay, SummariesRead};
+ghost use Rattle.gw_json.specs.Laws.{AnswersRead, AnswersStay, ChecksRead, ComparisonsRead, DenialsRead, DenialsStay, DifferencesRead};
+ghost use Rattle.gw_json.specs.Laws.{DifferencesStay, FaultsRead, GivenUpRead, OthersRead, PairedRead, PairsRead, RecordsAllowed};
+ghost use Rattle.gw_json.specs.Laws.{RegionsStay, SummariesRead};
 
 /// A reader of JSON reads each line as the object that it is: nothing that a line of the log, a note or a rule's name has
 /// can end a string or a line, or begin another member. So it is with the lines of a log, of answers, of a comparison and of a

@@ -4,7 +4,8 @@ ghost use Rattle.std.specs.Prelude.{◌≡◌, ◌+◌, ◌*◌, ◌<◌, ◌≤
 ghost use Rattle.gw_script.specs.Known.{OnKnown};
 ghost use Rattle.json.specs.Json.{Json};
 ghost use Rattle.gw_json.specs.Document.{line_of};
-ghost use Rattle.gw_json.specs.Log.{AreFrontMembers, IsDenialIn, IsEntryIn, IsOther, LeavesEntries, place_members, rule_members, shown_value};
+ghost use Rattle.gw_json.specs.Log.{AreFrontMembers, IsDenialIn, IsEntryIn, IsOther, LeavesEntries, place_members, rule_members};
+ghost use Rattle.gw_json.specs.Log.{shown_value};
 ghost use Rattle.gw_json.specs.internal.View.{members_view};
 ghost use Rattle.gw_log_words.specs.Fields.{is_denial, says_allow};
 
@@ -99,7 +100,8 @@ fn denial_in(alloc: Global, front: &[u8], fields: &[u8]) -> Result<Vec<u8>, Allo
 /// The object of a denial with what is in front of its line.
 fn fronted(alloc: Global, front: &[u8], shown: &Shown<'_>) -> Result<Vec<u8>, AllocError>
     ensures { IfOk result (λ text. (before : List (List ℕ × Json)) × AreFrontMembers front.now before
-        × (text.items ≡ line_of (shown_value (says_allow front.now) before shown.now.number shown.now.tick shown.now.ask shown.now.rule.now))) }
+        × (text.items ≡ line_of
+        (shown_value (says_allow front.now) before shown.now.number shown.now.tick shown.now.ask shown.now.rule.now))) }
 {
     let before = front_members(alloc, front)?;
     denial(alloc, says_allow(front), shown, before)

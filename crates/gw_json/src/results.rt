@@ -5,7 +5,8 @@ ghost use Rattle.std.specs.List.{flat_map};
 ghost use Rattle.gw_ask_sets.specs.regions.Pairs.{findings};
 ghost use Rattle.gw_json.specs.Comparison.{found_value, rules_value};
 ghost use Rattle.gw_json.specs.Document.{IsLinePut, line_of, object_of};
-ghost use Rattle.gw_json.specs.Results.{by_both_lines, by_pairs_lines, by_regions_lines, given_up_value, pair_members, pair_value, paired_value, pairs_lines, regions_lines, results_lines};
+ghost use Rattle.gw_json.specs.Results.{by_both_lines, by_pairs_lines, by_regions_lines, given_up_value, pair_members, pair_value};
+ghost use Rattle.gw_json.specs.Results.{paired_value, pairs_lines, regions_lines, results_lines};
 ghost use Rattle.gw_json.specs.internal.View.{members_view, value_view};
 ghost use Rattle.gw_policy_review.specs.comparison.PairLines.{known_of};
 

@@ -4,7 +4,8 @@ ghost use Rattle.std.specs.Prelude.{◌≡◌, ◌-◌, ◌<◌, ◌^◌, ◌++�
 ghost use Rattle.std.specs.Option.{option_map_or};
 ghost use Rattle.json.specs.Json.{array, null, string};
 ghost use Rattle.gw_json.specs.Document.{items_of, line_of};
-ghost use Rattle.gw_json.specs.Unheld.{ask_value, asserted_name, broken_value, flaw_key, flaw_value, flawed_value, is_held, unheld_item, unheld_items, unheld_members, unheld_value};
+ghost use Rattle.gw_json.specs.Unheld.{ask_value, asserted_name, broken_value, flaw_key, flaw_value, flawed_value, is_held, unheld_item};
+ghost use Rattle.gw_json.specs.Unheld.{unheld_items, unheld_members, unheld_value};
 ghost use Rattle.gw_json.specs.internal.View.{members_view, value_view, values_view};
 
 use crate::ask::{key_or_null, operation_value};

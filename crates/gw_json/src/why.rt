@@ -3,7 +3,8 @@
 ghost use Rattle.std.specs.Prelude.{◌≡◌, ◌+◌, ◌*◌, ◌<◌, ℕ, List, Some, length, option_map, IfOk, IsErrOf};
 ghost use Rattle.gw_script.specs.Known.{OnKnown};
 ghost use Rattle.gw_json.specs.Document.{line_of};
-ghost use Rattle.gw_json.specs.Why.{IsAnswerIn, LeavesVerdicts, SaysNoAsk, answer_value, beside_members, name_value, note_value, noted_value, place_members, quiet_members, verdict_members};
+ghost use Rattle.gw_json.specs.Why.{IsAnswerIn, LeavesVerdicts, SaysNoAsk, answer_value, beside_members, name_value, note_value};
+ghost use Rattle.gw_json.specs.Why.{noted_value, place_members, quiet_members, verdict_members};
 ghost use Rattle.gw_json.specs.internal.View.{members_view, value_view};
 
 use crate::ask::ask_members;

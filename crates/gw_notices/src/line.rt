@@ -1,7 +1,8 @@
 //! What is reported of a configuration that is read again.
 
 ghost use Rattle.std.specs.Prelude.{◌≡◌, ◌++◌, IfOk, IfSome, Ok, OnOk, Some};
-ghost use Rattle.gw_notices.specs.Reload.{IsRefusalLine, located_line, name_of, objects_words, policy_words, refusal_line, refusal_words, reload_line};
+ghost use Rattle.gw_notices.specs.Reload.{IsRefusalLine, located_line, name_of, objects_words, policy_words, refusal_line, refusal_words};
+ghost use Rattle.gw_notices.specs.Reload.{reload_line};
 ghost use Rattle.gw_system.specs.Requests.{text_found};
 
 use crate::parts::{ConfigurationPart, put_parts};

@@ -1,6 +1,7 @@
 //! Metrics of a gateway, as a text that a collector reads: the exposition format 0.0.4 of Prometheus.
 //!
-//! [`put_metrics`] appends the text of [`GatewayCounts`], a [`Family`] after the other, and [`Metrics`] puts it into a store, every ten ticks.
+//! [`put_metrics`] appends the text of [`GatewayCounts`], a [`Family`] after the other, and [`Metrics`] puts it into a store,
+//! every ten ticks.
 
 mod counts;
 mod escape;

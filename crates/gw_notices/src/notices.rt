@@ -2,7 +2,8 @@
 
 ghost use Rattle.std.specs.Prelude.{◌≡◌, None, Some};
 ghost use Rattle.std.specs.Io.KnownBytes.{Appends};
-ghost use Rattle.gw_notices.specs.Notices.{audit_notice, ended_notice, metrics_notice, no_status_line, notice_of, state_notice, stop_line, trial_notice, unkept_line, untaken_line};
+ghost use Rattle.gw_notices.specs.Notices.{audit_notice, ended_notice, metrics_notice, no_status_line, notice_of, state_notice, stop_line};
+ghost use Rattle.gw_notices.specs.Notices.{trial_notice, unkept_line, untaken_line};
 
 use crate::note::write_note;
 use crate::troubles::Troubles;

@@ -1,5 +1,6 @@
 -- The rules of a configuration, as tables of format 3: one for each, in order.
-use Rattle.std.specs.Prelude.{◌≡◌, ℕ, ◌+◌, ◌-◌, ◌==◌, Bool, false, if◌then◌else◌, List, [], ◌++◌, length, slice_get, codes, decimal, Option, Some, None, Ok}
+use Rattle.std.specs.Prelude.{◌≡◌, ℕ, ◌+◌, ◌-◌, ◌==◌, Bool, false, if◌then◌else◌, List, [], ◌++◌, length, slice_get, codes, decimal, Option}
+use Rattle.std.specs.Prelude.{Some, None, Ok}
 use Rattle.std.specs.List.{flat_map}
 use Rattle.std.specs.Option.{option_map_or}
 use Rattle.gw_configuration.specs.Configuration.{Configuration}
@@ -68,7 +69,8 @@ audit_at audits place = option_map_or (λ audit. audit) (slice_get audits place)
 -- the table of the rule of this number, from 1
 abbrev pub rule_table : (tables lines : List ℕ) → (notes : List (List ℕ)) → (audits : List Bool) → ℕ → Rule → List ℕ
 rule_table tables lines notes audits number rule =
-    number_line number (table_at tables (number - 1) + 1) (slice_get lines (table_at tables (number - 1))) ++ said_text rule (note_at notes (number - 1)) (audit_at audits (number - 1))
+    number_line number (table_at tables (number - 1) + 1) (slice_get lines (table_at tables (number - 1)))
+    ++ said_text rule (note_at notes (number - 1)) (audit_at audits (number - 1))
 
 -- those of all rules, of which the tables begin on these lines of the text
 abbrev pub listing_text : Configuration → (lines : List ℕ) → List ℕ

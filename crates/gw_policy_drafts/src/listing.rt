@@ -6,7 +6,8 @@ ghost use Rattle.gw_rules.specs.declared.field.TheConstants.FieldName.{ALL};
 ghost use Rattle.gw_script.specs.Order.{in_order};
 ghost use Rattle.gw_policy_drafts.specs.declared.listing.ListingFault.TheVariants as fault;
 ghost use Rattle.gw_policy_drafts.specs.Listing.{IsReadAgain, allow_line, audit_at, audit_line, field_of, head_text, last_text, line_end};
-ghost use Rattle.gw_policy_drafts.specs.Listing.{listing_text, note_at, note_line, noted_line, number_line, quiet_line, rule_table, said_text, table_at};
+ghost use Rattle.gw_policy_drafts.specs.Listing.{listing_text, note_at, note_line, noted_line, number_line, quiet_line, rule_table};
+ghost use Rattle.gw_policy_drafts.specs.Listing.{said_text, table_at};
 
 use crate::migration::{put_device, put_field, put_ports, put_quoted};
 use gw_addr::put_decimal;

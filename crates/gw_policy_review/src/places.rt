@@ -2,7 +2,8 @@
 //! tables of the rules in their order; `lines` are the lines of the text, from 1, on which its tables begin, in their order, or none
 //! if they aren't known.
 ghost use Rattle.std.specs.Prelude.{◌≡◌, ◌++◌, OnOk};
-ghost use Rattle.gw_policy_review.specs.Places.{PlacesAreLeftOut, is_derived, line_of, line_words, place_words, table_of, table_words, words_beside};
+ghost use Rattle.gw_policy_review.specs.Places.{PlacesAreLeftOut, is_derived, line_of, line_words, place_words, table_of, table_words};
+ghost use Rattle.gw_policy_review.specs.Places.{words_beside};
 
 use gw_addr::put_decimal;
 use std::alloc::AllocError;

@@ -1,5 +1,6 @@
 -- How many asks of a script each rule decides: of the events of its lines, from a fresh gateway.
-use Rattle.std.specs.Prelude.{◌≡◌, ◌<◌, ◌+◌, ⊤, ℕ, Bool, true, false, List, [], ◌∷◌, length, take, drop, slice_index, Option, Some, Result, Ok, Err}
+use Rattle.std.specs.Prelude.{◌≡◌, ◌<◌, ◌+◌, ⊤, ℕ, Bool, true, false, List, [], ◌∷◌, length, take, drop, slice_index, Option, Some, Result}
+use Rattle.std.specs.Prelude.{Ok, Err}
 use Rattle.gw_configuration.specs.Configuration.{Configuration}
 use Rattle.gw_core.specs.Asked.{asked_at, run_asked}
 use Rattle.gw_core.specs.History.{state_after, no_counts}
@@ -44,7 +45,8 @@ entry_asked w (Comes event) = asked_at w event
 entry_asked w Announces = []
 
 -- the first line writes something, whose asks are counted, and the gateway moved on by it
-pub record CountsEntry (announces : Bool) (ports : ℕ) (text : List ℕ) (left : Option (List ℕ)) (w moved : State) (before after : List ℕ) : Type 0 where
+pub record CountsEntry (announces : Bool) (ports : ℕ) (text : List ℕ) (left : Option (List ℕ)) (w moved : State)
+    (before after : List ℕ) : Type 0 where
   pub line : List ℕ
   pub entry : ScriptEntry
   pub writes : IsEntry announces ports line entry

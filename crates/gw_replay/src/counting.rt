@@ -33,8 +33,8 @@ struct ScriptCounting {
 }
 
 /// How many asks of a script each rule of this configuration decides, in lines as `gw_decisions::tally` writes them: the asks of the
-/// events of all its lines, or of those before the first that writes nothing, in a fresh gateway. `announce` asks nothing. `None` if memory was
-/// refused, a read failed, or an event would pass the end of a count.
+/// events of all its lines, or of those before the first that writes nothing, in a fresh gateway. `announce` asks nothing. `None` if
+/// memory was refused, a read failed, or an event would pass the end of a count.
 pub fn count_script<R: OctetSource>(
     alloc: Global,
     config: Config,

@@ -112,7 +112,8 @@ operation_head operation = element_text element.Head (operation_name operation)
 
 unfoldable pub access_head : List ℕ
 access_head =
-    open_text element.Row ++ (element_text element.Head (codes "from") ++ (flat_map operation_head all_operations ++ close_text element.Row))
+    open_text element.Row
+    ++ (element_text element.Head (codes "from") ++ (flat_map operation_head all_operations ++ close_text element.Row))
 
 -- a row for the network of each port, and one for all others; a column for each operation
 unfoldable pub table_text : (rows last : List ℕ) → List ℕ

@@ -24,7 +24,8 @@ use gw_script::OctetSource;
 use std::alloc::{AllocError, Global};
 
 /// A page of HTML that shows a configuration: the site as a picture, who may do what, the rules with their notes, the
-/// assertions with what is found of each, and the objects. It has no script and takes nothing from elsewhere, and every text of the configuration is escaped.
+/// assertions with what is found of each, and the objects. It has no script and takes nothing from elsewhere, and every text of
+/// the configuration is escaped.
 /// `lines` are those of the configuration's text on which the tables of its rules begin, or none if they aren't known.
 ///
 /// An `Err` only if a growth of memory was refused.

@@ -1,5 +1,6 @@
 -- A run that goes on if its log fails: the lines that the log lacks wait, and what is denied is withheld until they are written.
-use Rattle.std.specs.Prelude.{◌≡◌, ◌⊎◌, ℕ, ◌+◌, ◌==◌, ◌&&◌, not, Bool, true, false, if◌then◌else◌, List, [], ◌∷◌, ◌++◌, length, codes, decimal, Option, Some, None, Result, Ok, Err}
+use Rattle.std.specs.Prelude.{◌≡◌, ◌⊎◌, ℕ, ◌+◌, ◌==◌, ◌&&◌, not, Bool, true, false, if◌then◌else◌, List, [], ◌∷◌, ◌++◌, length, codes}
+use Rattle.std.specs.Prelude.{decimal, Option, Some, None, Result, Ok, Err}
 use Rattle.std.specs.Io.KnownBytes.{Appends, append_known}
 use Rattle.std.specs.List.{flat_map}
 use Rattle.gw_configuration.specs.Configuration.{Configuration}
@@ -16,7 +17,8 @@ use Rattle.gw_turns.specs.declared.serving.ServeFault.{ServeFault}
 use Rattle.gw_turns.specs.declared.serving.ServeFault.TheVariants as serving
 use Rattle.gw_wire.specs.Wire.{Call, Records, arrival}
 use Rattle.gw_system.specs.Requests.{Asking}
-use Rattle.gw_service.specs.Chain.{EndsSo, IsLink, IsServed, IsTicked, Link, Manner, Stage, ended, link_text, served, stage, stopping, ticked, withheld}
+use Rattle.gw_service.specs.Chain.{EndsSo, IsLink, IsServed, IsTicked, Link, Manner, Stage, ended, link_text, served, stage, stopping}
+use Rattle.gw_service.specs.Chain.{ticked, withheld}
 use Rattle.gw_service.specs.Conduct.{Conduct, manner_by}
 use Rattle.gw_service.specs.Metering.{metered}
 use Rattle.gw_service.specs.Stats.{Reporting}

@@ -1,5 +1,6 @@
 -- What a run leaves: one that may keep its state, read its configuration again, report and be watched.
-use Rattle.std.specs.Prelude.{◌≡◌, ◌⊎◌, ⊤, ℕ, ◌&&◌, ◌||◌, Bool, true, false, is_some, not, List, [], ◌∷◌, ◌++◌, Option, Some, None, Result, Ok, Err, codes, option_map, string_bytes}
+use Rattle.std.specs.Prelude.{◌≡◌, ◌⊎◌, ⊤, ℕ, ◌&&◌, ◌||◌, Bool, true, false, is_some, not, List, [], ◌∷◌, ◌++◌, Option, Some, None, Result}
+use Rattle.std.specs.Prelude.{Ok, Err, codes, option_map, string_bytes}
 use Rattle.std.specs.Global.{Vec}
 use Rattle.gw_configuration.specs.Configuration.{Configuration}
 use Rattle.gw_core.specs.State.{State}
@@ -43,8 +44,10 @@ use Rattle.gw_service.specs.Metering.{MetersLast, lost_by, metered, seconds_of}
 use Rattle.gw_service.specs.Fault.{fault_of_opening, fault_of_serving}
 use Rattle.gw_service.specs.Keeping.{IsPassed, failing_in, unkept_in}
 use Rattle.gw_notices.specs.Notices.{no_status_line, no_troubles, notice_of, stop_line}
-use Rattle.gw_service.specs.Watch.{IsUnwatched, WatchNames, WatchesUnder, conduct_beside, is_watched, more_of, troubles_of, unaudited_note, watch_names}
-use Rattle.gw_service.specs.Serving.{AreOpen, ArentOpen, Ends, LeavesServed, LogStays, Machine, Service, ends, log_held, machine_of, service}
+use Rattle.gw_service.specs.Watch.{IsUnwatched, WatchNames, WatchesUnder, conduct_beside, is_watched, more_of, troubles_of, unaudited_note}
+use Rattle.gw_service.specs.Watch.{watch_names}
+use Rattle.gw_service.specs.Serving.{AreOpen, ArentOpen, Ends, LeavesServed, LogStays, Machine, Service, ends, log_held, machine_of}
+use Rattle.gw_service.specs.Serving.{service}
 use Rattle.gw_service.specs.Start.{BeginsAs, IsStateRead, counts_of, start_text}
 use Rattle.gw_notices.specs.Reload.{counts_since}
 use Rattle.gw_notices.specs.declared.checksum.Checksum.{Checksum}

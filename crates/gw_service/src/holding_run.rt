@@ -1,14 +1,16 @@
 //! A gateway that runs by stretches and goes on if its log fails: the lines that the log lacks wait, and what is denied is withheld
 //! until they are written.
 
-ghost use Rattle.std.specs.Prelude.{◌≡◌, ◌==◌, ◌++◌, ◌≤◌, ◌<◌, ◌+◌, ◌∷◌, [], if◌then◌else◌, ℕ, IsOk, List, None, Ok, Option, OnOk, Some, length, false, true};
+ghost use Rattle.std.specs.Prelude.{◌≡◌, ◌==◌, ◌++◌, ◌≤◌, ◌<◌, ◌+◌, ◌∷◌, [], if◌then◌else◌, ℕ, IsOk, List, None, Ok, Option, OnOk, Some};
+ghost use Rattle.std.specs.Prelude.{length, false, true};
 ghost use Rattle.std.specs.Io.KnownBytes.{Appends};
 ghost use Rattle.gw_configuration.specs.Configuration.{Configuration};
 ghost use Rattle.gw_state.specs.Saved.{origin_of};
 ghost use Rattle.gw_system.specs.Requests.{IsAsking};
 ghost use Rattle.gw_turns.specs.Pace.{one_more};
 ghost use Rattle.gw_service.specs.Chain.{CanGoOn};
-ghost use Rattle.gw_service.specs.Holding.{Finishes, GoesTo, RunsHolding, ServesHolding, answer_holding, goes_on, has_log_failed, hold, holding_manner, more_holding, stage_of, waits_line, written_line};
+ghost use Rattle.gw_service.specs.Holding.{Finishes, GoesTo, RunsHolding, ServesHolding, answer_holding, goes_on, has_log_failed, hold};
+ghost use Rattle.gw_service.specs.Holding.{holding_manner, more_holding, stage_of, waits_line, written_line};
 ghost use Rattle.gw_service.specs.Kept.{RunsFromHolding, is_stopped, rest};
 ghost use Rattle.gw_service.specs.Serving.{ends};
 ghost use Rattle.gw_service.specs.Stats.{end_stats};

@@ -13,7 +13,8 @@ ghost use Rattle.gw_notices.specs.declared.reload.ReloadCounts.{ReloadCounts};
 ghost use Rattle.gw_service.specs.Kept.{Given};
 ghost use Rattle.gw_service.specs.Metering.{meters_by};
 ghost use Rattle.gw_service.specs.WatchedRuns.{AuditIsWhole, CountsAreWhole, TrialIsWhole};
-ghost use Rattle.gw_service.specs.Laws.{ChecksumIsInForce, IsAsPlain, IsAsServed, IsAsUnwatched, NobodyAsks, NumbersGoOn, NumbersGoOnAlone, RulesAreInForce, RulesStay};
+ghost use Rattle.gw_service.specs.Laws.{ChecksumIsInForce, IsAsPlain, IsAsServed, IsAsUnwatched, NobodyAsks, NumbersGoOn, NumbersGoOnAlone};
+ghost use Rattle.gw_service.specs.Laws.{RulesAreInForce, RulesStay};
 
 use crate::keeping::StateKeeper;
 use crate::waiting::MOST_WAITING;

@@ -1,11 +1,13 @@
 //! Reports of a run, each so many seconds and at its end; and what is said each minute of a verbose one.
 
 ghost use Rattle.std.proofs.Props.{props};
-ghost use Rattle.std.specs.Prelude.{◌≡◌, ◌-◌, ◌/◌, ◌%◌, ◌==◌, ◌&&◌, ◌||◌, ◌<◌, ◌≤◌, IfOk, IfSome, IsOk, IsTrue, OnOk, if◌then◌else◌, [], List, ℕ, true};
+ghost use Rattle.std.specs.Prelude.{◌≡◌, ◌-◌, ◌/◌, ◌%◌, ◌==◌, ◌&&◌, ◌||◌, ◌<◌, ◌≤◌, IfOk, IfSome, IsOk, IsTrue, OnOk, if◌then◌else◌, []};
+ghost use Rattle.std.specs.Prelude.{List, ℕ, true};
 ghost use Rattle.std.specs.Io.KnownBytes.{Appends};
 ghost use Rattle.gw_service.specs.Metering.{lost_by, metered};
 ghost use Rattle.gw_service.specs.Metrics.{measures_of};
-ghost use Rattle.gw_service.specs.Stats.{all_stats, due_stats, end_stats, ends_hour, is_due, minute_text, reporting, stats_text, tries_text, troubles_text, whole, with_rules};
+ghost use Rattle.gw_service.specs.Stats.{all_stats, due_stats, end_stats, ends_hour, is_due, minute_text, reporting, stats_text};
+ghost use Rattle.gw_service.specs.Stats.{tries_text, troubles_text, whole, with_rules};
 
 use crate::keeping::StateKeeper;
 use crate::metrics::{Measures, lost_of};

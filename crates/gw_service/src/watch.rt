@@ -2,7 +2,8 @@
 
 ghost use Rattle.std.specs.Prelude.{◌≡◌, ◌||◌, Ok, is_some, option_map, string_bytes, IfErr, IfOk};
 ghost use Rattle.gw_system.specs.Offers.{OpensLog};
-ghost use Rattle.gw_service.specs.Watch.{AreCountsOf, AreCountsUnder, IsAuditUnder, IsTrialUnder, IsUnwatched, WatchesUnder, fault_of_watching, watch_names};
+ghost use Rattle.gw_service.specs.Watch.{AreCountsOf, AreCountsUnder, IsAuditUnder, IsTrialUnder, IsUnwatched, WatchesUnder};
+ghost use Rattle.gw_service.specs.Watch.{fault_of_watching, watch_names};
 
 use crate::fault::ServiceFault;
 use gw_configuration::{Config, RunOptions};

@@ -5,7 +5,8 @@ ghost use Rattle.std.specs.Io.KnownBytes.{Appends};
 ghost use Rattle.std.specs.Option.{option_map_or};
 ghost use Rattle.std.specs.Process.{exit_status};
 ghost use Rattle.gw_ending.specs.Ending.{status_after};
-ghost use Rattle.gw_shell.specs.Ending.{ReportsPlaceBy, error_text_by, explains_itself, file_of, file_of_run, first_file, trial_file, usage_of};
+ghost use Rattle.gw_shell.specs.Ending.{ReportsPlaceBy, error_text_by, explains_itself, file_of, file_of_run, first_file, trial_file};
+ghost use Rattle.gw_shell.specs.Ending.{usage_of};
 
 use gw_command_line::Choice;
 use gw_configuration::RunOptions;

@@ -1,4 +1,5 @@
-//! The laws of a state that outlives the process: nothing is lost when it is taken over, what is saved is read back, and what lasts is stored before it is answered.
+//! The laws of a state that outlives the process: nothing is lost when it is taken over, what is saved is read back, and what lasts is
+//! stored before it is answered.
 #![tactic(auto)]
 
 pub mod continuity;

@@ -1,6 +1,6 @@
 -- What a gateway of a configuration takes over of a saved state, in words.
-use Rattle.std.specs.Prelude.{ℕ, ◌==◌, Bool, true, false, not, nat_le, ◌&&◌, if◌then◌else◌, List, [], ◌∷◌, ◌++◌}
-use Rattle.std.specs.Prelude.{codes, find, count_by, is_some, Option, Some, None}
+use Rattle.std.specs.Prelude.{ℕ, ◌==◌, Bool, true, false, not, nat_le, ◌&&◌, if◌then◌else◌, List, [], ◌∷◌, ◌++◌, codes, find, count_by}
+use Rattle.std.specs.Prelude.{is_some, Option, Some, None}
 use Rattle.std.specs.Fmt.{decimal, signed_decimal}
 use Rattle.std.specs.List.{flat_map}
 use Rattle.std.specs.Option.{option_map_or}
@@ -15,7 +15,8 @@ use Rattle.gw_state.specs.declared.counts.SavedCounts.{SavedCounts}
 use Rattle.gw_state_words.specs.declared.takeover.finding.Absence.{Absence}
 use Rattle.gw_state_words.specs.declared.takeover.finding.Absence.TheVariants.{NotConfigured, Twice}
 use Rattle.gw_state_words.specs.declared.takeover.finding.TakeoverFinding.{TakeoverFinding}
-use Rattle.gw_state_words.specs.declared.takeover.finding.TakeoverFinding.TheVariants.{Port, NewPort, LostPort, Route, Value, NewObject, LostObject}
+use Rattle.gw_state_words.specs.declared.takeover.finding.TakeoverFinding.TheVariants.{Port, NewPort, LostPort, Route, Value, NewObject}
+use Rattle.gw_state_words.specs.declared.takeover.finding.TakeoverFinding.TheVariants.{LostObject}
 use Rattle.gw_state_words.specs.declared.takeover.finding.HeldPlace.{HeldPlace}
 use Rattle.gw_state_words.specs.declared.takeover.finding.HeldPlace.TheVariants.{Slot, Default}
 use Rattle.gw_state_words.specs.declared.takeover.finding.Loss.{Loss}

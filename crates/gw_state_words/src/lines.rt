@@ -1,6 +1,9 @@
 //! The line of what is found of a part.
 ghost use Rattle.std.specs.Prelude.{◌≡◌, ◌++◌, codes, OnOk};
-ghost use Rattle.gw_state_words.specs.Words.{beside_words, by_words, default_words, ending_words, finding_words, held_words, line, lost_object_words, lost_port_words, new_words, other_words, port_line_words, reason_words, refusal_words, route_words, slots_words, table_reason_words, table_words, taken_over_words, unmanaged_words, verdict_words, way_words, written_words};
+ghost use Rattle.gw_state_words.specs.Words.{beside_words, by_words, default_words, ending_words, finding_words, held_words, line};
+ghost use Rattle.gw_state_words.specs.Words.{lost_object_words, lost_port_words, new_words, other_words, port_line_words, reason_words};
+ghost use Rattle.gw_state_words.specs.Words.{refusal_words, route_words, slots_words, table_reason_words, table_words, taken_over_words};
+ghost use Rattle.gw_state_words.specs.Words.{unmanaged_words, verdict_words, way_words, written_words};
 
 use crate::takeover::{
     Absence, HeldPlace, ObjectName, PortName, RouteFate, RouteFinding, Sizes, TableFate,

@@ -1,7 +1,8 @@
 //! What is taken over, in one line.
 ghost use Rattle.std.specs.Prelude.{◌≡◌, ◌++◌, count_by, find, option_copied, IfOk, OnErr, OnOk};
 ghost use Rattle.std.specs.List.{flat_map};
-ghost use Rattle.gw_state_words.specs.Words.{is_loss, kept_words, kinds, loss_words, many_word, one_word, short_held_words, short_value_words, short_words, take_over_words};
+ghost use Rattle.gw_state_words.specs.Words.{is_loss, kept_words, kinds, loss_words, many_word, one_word, short_held_words};
+ghost use Rattle.gw_state_words.specs.Words.{short_value_words, short_words, take_over_words};
 
 use crate::lines::{put_reason, put_refusal, put_table_reason};
 use crate::takeover::{HeldPlace, Loss, RouteFinding, TakeOver, TakeoverFinding, ValueFinding};

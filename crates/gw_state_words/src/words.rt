@@ -2,7 +2,9 @@
 ghost use Rattle.std.specs.Prelude.{◌≡◌, ◌<◌, ◌++◌, ◌==◌, if◌then◌else◌, option_map, OnOk};
 ghost use Rattle.std.specs.List.{flat_map};
 ghost use Rattle.gw_addr.specs.Station.{digit_of, two_digits};
-ghost use Rattle.gw_state_words.specs.Words.{absence_words, active_words, counted, devices_words, identifier_words, is_plain, numbered_words, object_words, peers_words, port_words, quoted, shown, tables_words, type_words, value_words};
+ghost use Rattle.gw_state_words.specs.Words.{absence_words, active_words, counted, devices_words, identifier_words, is_plain};
+ghost use Rattle.gw_state_words.specs.Words.{numbered_words, object_words, peers_words, port_words, quoted, shown, tables_words};
+ghost use Rattle.gw_state_words.specs.Words.{type_words, value_words};
 
 use crate::takeover::{Absence, ObjectName, PortName, Sizes};
 use gw_addr::put_decimal;

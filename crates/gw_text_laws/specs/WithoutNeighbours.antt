@@ -1,6 +1,7 @@
 -- Texts as they are read where there are neither `bbmd` of a port nor `announce`: no port has another broadcast manager beside it, and
 -- nothing is announced.
-use Rattle.std.specs.Prelude.{◌≡◌, ℕ, Bool, false, ◌||◌, ◌++◌, nat_lt, if◌then◌else◌, is_some, List, [], ◌∷◌, length, codes, Option, Some, None, Ok, Err}
+use Rattle.std.specs.Prelude.{◌≡◌, ℕ, Bool, false, ◌||◌, ◌++◌, nat_lt, if◌then◌else◌, is_some, List, [], ◌∷◌, length, codes, Option, Some}
+use Rattle.std.specs.Prelude.{None, Ok, Err}
 use Rattle.std.specs.List.{list_any}
 use Rattle.toml.specs.Data.{Data, Members, as_table, get_member}
 use Rattle.gw_addr.specs.Reading.{◌>>=◌}
@@ -19,8 +20,8 @@ use Rattle.gw_policy_text.specs.keys.Field.{Field, located_in}
 use Rattle.gw_policy_text.specs.keys.Tables.{common_port_fields, common_top_fields, format_in, may, tables}
 use Rattle.gw_policy_text.specs.keys.Value.{table_in}
 use Rattle.gw_policy_text.specs.Document.{document, located_configuration}
-use Rattle.gw_policy_text.specs.Parts.{address_at, device_at, each_at, format_at, list_at, list_or, number_at, objects_at, peers_at, routes_at}
-use Rattle.gw_policy_text.specs.Parts.{stations_at}
+use Rattle.gw_policy_text.specs.Parts.{address_at, device_at, each_at, format_at, list_at, list_or, number_at, objects_at, peers_at}
+use Rattle.gw_policy_text.specs.Parts.{routes_at, stations_at}
 use Rattle.gw_policy_text.specs.Policy.{policy_at}
 
 -- the fields that there are then

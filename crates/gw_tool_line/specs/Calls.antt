@@ -4,9 +4,9 @@ use Rattle.clap.specs.Words.{Text, fault_of}
 use Rattle.clap.specs.declared.error.kind.ErrorKind.TheVariants as parse
 use Rattle.gw_tool_line.specs.CommandLine.{AskFor}
 use Rattle.gw_tool_line.specs.Commands.{commands}
-use Rattle.gw_tool_line.specs.Requests.{Asks, Begins, Calls as Serves, Looks, Reads, Registers, Writes}
-use Rattle.gw_tool_line.specs.Requests.{Checks, ChecksJson, Compares, ComparesJson, Explains, Judges, ListsLog, ListsPoints, ListsRules, Migrates}
-use Rattle.gw_tool_line.specs.Requests.{Reloads, Reports, Request, Shows, Stops, Suggests, Tells, TranslatesLog, asked_in}
+use Rattle.gw_tool_line.specs.Requests.{Asks, Begins, Calls as Serves, Looks, Reads, Registers, Writes, Checks, ChecksJson, Compares}
+use Rattle.gw_tool_line.specs.Requests.{ComparesJson, Explains, Judges, ListsLog, ListsPoints, ListsRules, Migrates, Reloads, Reports}
+use Rattle.gw_tool_line.specs.Requests.{Request, Shows, Stops, Suggests, Tells, TranslatesLog, asked_in}
 use Rattle.gw_command_line.specs.options.Options.{most_count}
 
 -- these words, after the program's name, ask for this
@@ -75,7 +75,8 @@ pub record CallsAreTaken : Type 0 where
       ∷ codes "--priority" ∷ codes "8" ∷ []))
       (Asks site (codes "10.1.0.10") (Some (codes "300:20")) (Writes (codes "2,1") (Some (codes "8"))))
   pub ask_for_service : Calls
-      (codes "ask" ∷ on_site (codes "--from" ∷ codes "300:0x0714" ∷ codes "--to" ∷ codes "10.1.0.10" ∷ codes "--service" ∷ codes "SubscribeCOV" ∷ []))
+      (codes "ask" ∷ on_site (codes "--from" ∷ codes "300:0x0714" ∷ codes "--to" ∷ codes "10.1.0.10"
+      ∷ codes "--service" ∷ codes "SubscribeCOV" ∷ []))
       (Asks site (codes "300:0x0714") (Some (codes "10.1.0.10")) (Serves (codes "SubscribeCOV")))
   pub ask_who_is : Calls (codes "ask" ∷ on_site (codes "--from" ∷ codes "10.1.0.10" ∷ codes "--who-is" ∷ []))
       (Asks site (codes "10.1.0.10") None Looks)
@@ -84,8 +85,9 @@ pub record CallsAreTaken : Type 0 where
   pub init : Calls (codes "init" ∷ codes "--port" ∷ codes "10.1.0.2/24" ∷ codes "--port" ∷ codes "10.2.0.2/24" ∷ [])
       (Begins (codes "10.1.0.2/24" ∷ codes "10.2.0.2/24" ∷ []) [] [] [] [])
   pub init_whole : Calls
-      (codes "init" ∷ codes "--port" ∷ codes "10.1.0.2/24" ∷ codes "--operator" ∷ codes "10.1.0.10" ∷ codes "--router" ∷ codes "300=10.2.0.254"
-      ∷ codes "--peer" ∷ codes "2=203.0.113.2/24" ∷ codes "--port" ∷ codes "10.2.0.2/24" ∷ codes "--bbmd" ∷ codes "1=10.1.0.3"
+      (codes "init" ∷ codes "--port" ∷ codes "10.1.0.2/24" ∷ codes "--operator" ∷ codes "10.1.0.10"
+      ∷ codes "--router" ∷ codes "300=10.2.0.254" ∷ codes "--peer" ∷ codes "2=203.0.113.2/24"
+      ∷ codes "--port" ∷ codes "10.2.0.2/24" ∷ codes "--bbmd" ∷ codes "1=10.1.0.3"
       ∷ codes "--operator" ∷ codes "10.1.0.11" ∷ [])
       (Begins (codes "10.1.0.2/24" ∷ codes "10.2.0.2/24" ∷ []) (codes "2=203.0.113.2/24" ∷ []) (codes "300=10.2.0.254" ∷ [])
       (codes "10.1.0.10" ∷ codes "10.1.0.11" ∷ []) (codes "1=10.1.0.3" ∷ []))
@@ -99,9 +101,12 @@ pub record CallsAreTaken : Type 0 where
       (TranslatesLog None (Some (codes "2026-11-25T08:00:00+01:00")))
 
 pub record CallsAreRefused : Type 0 where
-  pub check_json_explain : (program : Text) → fault_of commands (program ∷ codes "explain" ∷ on_site (codes "--json" ∷ [])) ≡ parse.UnknownArgument ∷ []
-  pub check_json_lint : (program : Text) → fault_of commands (program ∷ codes "lint" ∷ on_site (codes "--json" ∷ [])) ≡ parse.UnknownArgument ∷ []
-  pub check_json_migrate : (program : Text) → fault_of commands (program ∷ codes "migrate" ∷ on_site (codes "--json" ∷ [])) ≡ parse.UnknownArgument ∷ []
+  pub check_json_explain : (program : Text)
+      → fault_of commands (program ∷ codes "explain" ∷ on_site (codes "--json" ∷ [])) ≡ parse.UnknownArgument ∷ []
+  pub check_json_lint : (program : Text)
+      → fault_of commands (program ∷ codes "lint" ∷ on_site (codes "--json" ∷ [])) ≡ parse.UnknownArgument ∷ []
+  pub check_json_migrate : (program : Text)
+      → fault_of commands (program ∷ codes "migrate" ∷ on_site (codes "--json" ∷ [])) ≡ parse.UnknownArgument ∷ []
   pub why_json_count : Mistakes (codes "why" ∷ on_site (codes "--json" ∷ codes "--count" ∷ []))
       (codes "--json and --count exclude each other\n")
   pub compare_json_steps : Mistakes
@@ -117,9 +122,11 @@ pub record CallsAreRefused : Type 0 where
   pub compare_most : OutOfRange (codes "compare" ∷ on_site (codes "--with" ∷ codes "new.toml" ∷ codes "--most" ∷ codes "0" ∷ []))
   pub reload_none : OutOfRange
       (codes "reload" ∷ on_site (codes "--reload" ∷ codes "again" ∷ codes "--was" ∷ codes "old.toml" ∷ codes "--most" ∷ codes "0" ∷ []))
-  pub logs : (program : Text) → fault_of commands (program ∷ codes "log" ∷ codes "one.log" ∷ codes "two.log" ∷ []) ≡ parse.UnknownArgument ∷ []
+  pub logs : (program : Text)
+      → fault_of commands (program ∷ codes "log" ∷ codes "one.log" ∷ codes "two.log" ∷ []) ≡ parse.UnknownArgument ∷ []
   pub ask_both : Mistakes
-      (codes "ask" ∷ on_site (codes "--from" ∷ codes "a" ∷ codes "--to" ∷ codes "b" ∷ codes "--read" ∷ codes "5,1" ∷ codes "--write" ∷ codes "5,1" ∷ []))
+      (codes "ask" ∷ on_site (codes "--from" ∷ codes "a" ∷ codes "--to" ∷ codes "b" ∷ codes "--read" ∷ codes "5,1"
+      ∷ codes "--write" ∷ codes "5,1" ∷ []))
       (codes "--read and --write exclude each other\n")
   pub ask_neither : Mistakes (codes "ask" ∷ on_site (codes "--from" ∷ codes "a" ∷ codes "--to" ∷ codes "b" ∷ []))
       (codes "give one of --read, --write, --service, --who-is and --register\n")
@@ -127,10 +134,12 @@ pub record CallsAreRefused : Type 0 where
       (codes "ask" ∷ on_site (codes "--from" ∷ codes "a" ∷ codes "--who-is" ∷ codes "--register" ∷ []))
       (codes "give one of --read, --write, --service, --who-is and --register\n")
   pub ask_priority : Mistakes
-      (codes "ask" ∷ on_site (codes "--from" ∷ codes "a" ∷ codes "--to" ∷ codes "b" ∷ codes "--read" ∷ codes "5,1" ∷ codes "--priority" ∷ codes "8" ∷ []))
+      (codes "ask" ∷ on_site (codes "--from" ∷ codes "a" ∷ codes "--to" ∷ codes "b" ∷ codes "--read" ∷ codes "5,1"
+      ∷ codes "--priority" ∷ codes "8" ∷ []))
       (codes "--priority needs --write\n")
   pub ask_nobody : (program : Text)
-      → fault_of commands (program ∷ codes "ask" ∷ on_site (codes "--to" ∷ codes "b" ∷ codes "--read" ∷ codes "5,1" ∷ [])) ≡ parse.MissingRequiredArgument ∷ []
+      → fault_of commands (program ∷ codes "ask" ∷ on_site (codes "--to" ∷ codes "b" ∷ codes "--read" ∷ codes "5,1" ∷ []))
+      ≡ parse.MissingRequiredArgument ∷ []
   pub init_nowhere : (program : Text) → fault_of commands (program ∷ codes "init" ∷ []) ≡ parse.MissingRequiredArgument ∷ []
   pub status_nobody : (program : Text) → fault_of commands (program ∷ codes "status" ∷ []) ≡ parse.MissingRequiredArgument ∷ []
   pub stop_nobody : (program : Text) → fault_of commands (program ∷ codes "stop" ∷ []) ≡ parse.MissingRequiredArgument ∷ []

@@ -13,8 +13,8 @@ use Rattle.gw_command_line.specs.options.Values.{Values}
 use Rattle.gw_tool_line.specs.declared.ask_choice.DeedWords.{DeedWords}
 use Rattle.gw_tool_line.specs.declared.ask_choice.Unclear.{Unclear}
 use Rattle.gw_tool_line.specs.declared.ask_choice.DeedWords.TheVariants as said
-use Rattle.gw_tool_line.specs.Requests.{Checks, ChecksJson, Compares, ComparesJson, Explains, Judges, ListsLog, ListsPoints, ListsRules, Migrates}
-use Rattle.gw_tool_line.specs.Requests.{Reloads, Reports, Request, Shows, Stops, Suggests, Tells, TranslatesLog, asked_in}
+use Rattle.gw_tool_line.specs.Requests.{Checks, ChecksJson, Compares, ComparesJson, Explains, Judges, ListsLog, ListsPoints, ListsRules}
+use Rattle.gw_tool_line.specs.Requests.{Migrates, Reloads, Reports, Request, Shows, Stops, Suggests, Tells, TranslatesLog, asked_in}
 use Rattle.gw_tool_line.specs.declared.command_line.Choice.{Choice}
 use Rattle.gw_tool_line.specs.declared.command_line.Choice.TheVariants as choice
 use Rattle.gw_tool_line.specs.declared.options.Shown.{Shown}

@@ -191,7 +191,8 @@ AllValues = Text → List Text
 -- `init`: the words that say what a site has
 abbrev pub init_asked : AllValues → Result Request Text
 init_asked values =
-    Ok (Begins (values (codes "port")) (values (codes "peer")) (values (codes "router")) (values (codes "operator")) (values (codes "bbmd")))
+    Ok (Begins (values (codes "port")) (values (codes "peer")) (values (codes "router")) (values (codes "operator"))
+    (values (codes "bbmd")))
 
 -- a command's name is this one
 abbrev pub is_named : Text → Text → Bool

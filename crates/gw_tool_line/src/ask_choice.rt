@@ -3,7 +3,8 @@
 ghost use Rattle.std.specs.Prelude.{◌≡◌, Err, None, Ok, option_map, string_bytes, IfOk};
 ghost use Rattle.clap.specs.Words.{first_value, found_of};
 ghost use Rattle.gw_tool_line.specs.CommandLine.{IsChosen, deed_of, deed_view, one_view};
-ghost use Rattle.gw_tool_line.specs.Requests.{Calls, added, ask_asked, ask_from, deed_asked, deed_given, deed_if, either, last_deed, line_of, property_deed, write_deed};
+ghost use Rattle.gw_tool_line.specs.Requests.{Calls, added, ask_asked, ask_from, deed_asked, deed_given, deed_if, either, last_deed};
+ghost use Rattle.gw_tool_line.specs.Requests.{line_of, property_deed, write_deed};
 
 use crate::command_line::{Choice, usage};
 use clap::ArgMatches;
@@ -96,7 +97,8 @@ fn property_words(
     write: Option<String>,
     priority: Option<String>,
 ) -> Result<Option<DeedWords>, Unclear>
-    ensures { one_view result ≡ property_deed (option_map string_bytes read) (option_map string_bytes write) (option_map string_bytes priority) }
+    ensures { one_view result
+        ≡ property_deed (option_map string_bytes read) (option_map string_bytes write) (option_map string_bytes priority) }
 {
     if write.is_none() && priority.is_some() {
         return Err(Unclear::Priority);

@@ -3,9 +3,9 @@
 ghost use Rattle.std.specs.Prelude.{◌≡◌, false, codes, IfOk};
 ghost use Rattle.clap.specs.Words.{app_of, rule_of};
 ghost use Rattle.clap.specs.declared.builder.command.Command.TheViews.{out-Command};
-ghost use Rattle.gw_tool_line.specs.Commands.{check, commands, later_commands, compare, compare_of_most, explain, first_commands, lint, log, log_of_file};
-ghost use Rattle.gw_tool_line.specs.Commands.{middle_commands, migrate, most_commands, objects, program, reload, reload_of_request, report, state};
-ghost use Rattle.gw_tool_line.specs.Commands.{rules, status, stop, suggest, why, why_of_form};
+ghost use Rattle.gw_tool_line.specs.Commands.{check, commands, later_commands, compare, compare_of_most, explain, first_commands, lint};
+ghost use Rattle.gw_tool_line.specs.Commands.{log, log_of_file, middle_commands, migrate, most_commands, objects, program, reload};
+ghost use Rattle.gw_tool_line.specs.Commands.{reload_of_request, report, state, rules, status, stop, suggest, why, why_of_form};
 
 use crate::ask_command::make_ask;
 use crate::init_command::make_init;

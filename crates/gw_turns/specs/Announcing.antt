@@ -1,6 +1,7 @@
 -- What a gateway announces beside its turns: at the start, once another configuration is in force, and again on a port of which a send
 -- failed, each time after a longer rest.
-use Rattle.std.specs.Prelude.{◌≡◌, ◌⊎◌, ℕ, zero, suc, ◌+◌, ◌-◌, ◌^◌, ◌≤◌, min, Bool, true, false, nat_lt, List, [], length, map, replicate, slice_index_or, slice_set, Option}
+use Rattle.std.specs.Prelude.{◌≡◌, ◌⊎◌, ℕ, zero, suc, ◌+◌, ◌-◌, ◌^◌, ◌≤◌, min, Bool, true, false, nat_lt, List, [], length, map, replicate}
+use Rattle.std.specs.Prelude.{slice_index_or, slice_set, Option}
 use Rattle.std.specs.List.{flat_map, range_with_len}
 use Rattle.gw_addr.specs.declared.TheConstants.{MAX_PORTS}
 use Rattle.gw_core.specs.State.{State}

@@ -18,15 +18,17 @@ second_moment m = moment m.scene m.guard.second m.served m.tally
 
 -- If the second lets all go, a stretch under both is one under the first alone.
 abbrev pub IsUnderFirst : {G H : Type 0} → (G → State → Event → G → Bool → Type 0) → (H → State → Event → H → Bool → Type 0) → Type 0
-IsUnderFirst {G} {H} First Second = LetsAllGo Second → (count : ℕ) (before after : Moment (BothGuards G H)) (answer : Result StretchEnd ServeFault)
-    (unwritten : List ℕ) → EndsStretch (PassesBoth First Second) count before answer unwritten after →
-    EndsStretch First count (first_moment before) answer unwritten (first_moment after)
+IsUnderFirst {G} {H} First Second = LetsAllGo Second → (count : ℕ) (before after : Moment (BothGuards G H))
+    (answer : Result StretchEnd ServeFault) (unwritten : List ℕ)
+    → EndsStretch (PassesBoth First Second) count before answer unwritten after
+    → EndsStretch First count (first_moment before) answer unwritten (first_moment after)
 
 -- If the first lets all go, a stretch under both is one under the second alone.
 abbrev pub IsUnderSecond : {G H : Type 0} → (G → State → Event → G → Bool → Type 0) → (H → State → Event → H → Bool → Type 0) → Type 0
-IsUnderSecond {G} {H} First Second = LetsAllGo First → (count : ℕ) (before after : Moment (BothGuards G H)) (answer : Result StretchEnd ServeFault)
-    (unwritten : List ℕ) → EndsStretch (PassesBoth First Second) count before answer unwritten after →
-    EndsStretch Second count (second_moment before) answer unwritten (second_moment after)
+IsUnderSecond {G} {H} First Second = LetsAllGo First → (count : ℕ) (before after : Moment (BothGuards G H))
+    (answer : Result StretchEnd ServeFault) (unwritten : List ℕ)
+    → EndsStretch (PassesBoth First Second) count before answer unwritten after
+    → EndsStretch Second count (second_moment before) answer unwritten (second_moment after)
 
 -- And turns that both passed were passed by the first.
 abbrev pub GoOnUnderFirst : {G H : Type 0} → (G → State → Event → G → Bool → Type 0) → (H → State → Event → H → Bool → Type 0) → Type 0

@@ -1,5 +1,6 @@
 -- How often a store is tried: after a try that failed it rests, longer each time; and between two ticks it is tried at few events.
-use Rattle.std.specs.Prelude.{◌≡◌, ℕ, ◌+◌, ◌-◌, ◌*◌, ◌/◌, ◌^◌, ◌&&◌, Bool, true, false, if◌then◌else◌, nat_eq, nat_lt, [], ◌∷◌, map, zero, suc}
+use Rattle.std.specs.Prelude.{◌≡◌, ℕ, ◌+◌, ◌-◌, ◌*◌, ◌/◌, ◌^◌, ◌&&◌, Bool, true, false, if◌then◌else◌, nat_eq, nat_lt, [], ◌∷◌, map, zero}
+use Rattle.std.specs.Prelude.{suc}
 use Rattle.gw_turns.specs.declared.pace.Pace.{Pace}
 use Rattle.gw_turns.specs.declared.pace.TheConstants.{LONGEST_PAUSE, MOST_REPLACES}
 

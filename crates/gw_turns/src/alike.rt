@@ -3,7 +3,8 @@
 ghost use Rattle.std.specs.Prelude.{◌≡◌, ◌+◌, Bool};
 ghost use Rattle.std.specs.Cmp.Lexicographic.{pointwise};
 ghost use Rattle.gw_state.specs.Carried.{same_entry};
-ghost use Rattle.gw_turns.specs.Keeping.{alike_but_ticks, are_ending_alike, ends_alike, is_fresh, is_same, is_same_object, is_same_port, is_same_route, is_same_slot, lasts_alike};
+ghost use Rattle.gw_turns.specs.Keeping.{alike_but_ticks, are_ending_alike, ends_alike, is_fresh, is_same, is_same_object, is_same_port};
+ghost use Rattle.gw_turns.specs.Keeping.{is_same_route, is_same_slot, lasts_alike};
 
 use gw_addr::{BdtEntry, NetNum};
 use gw_objects::PropertyValue;

@@ -3,7 +3,8 @@
 ghost use Rattle.std.specs.Prelude.{◌≡◌, ◌⊎◌, IfOk, OnOk, OnErr, Err, false};
 ghost use Rattle.gw_core.specs.Resumed.{saved_of};
 ghost use Rattle.gw_state_text.specs.Text.{state_text};
-ghost use Rattle.gw_turns.specs.Keeping.{HasPassed, IsHeld, IsTried, IsTriedLast, KeepsAtTick, KeepsBy, KeepsChanged, KeepsDue, Tries, due_of, failing_of, is_due, is_kept, nothing_kept, spared, spared_by};
+ghost use Rattle.gw_turns.specs.Keeping.{HasPassed, IsHeld, IsTried, IsTriedLast, KeepsAtTick, KeepsBy, KeepsChanged, KeepsDue, Tries};
+ghost use Rattle.gw_turns.specs.Keeping.{due_of, failing_of, is_due, is_kept, nothing_kept, spared, spared_by};
 ghost use Rattle.gw_turns.specs.Pace.{may_try, one_more, paced, ticked};
 ghost use Rattle.gw_wire.specs.Store.{Holds};
 
@@ -200,7 +201,11 @@ impl<S: Store + Drop> Keeper<S> {
 
     /// Counts a try for which memory was refused.
     fn fail(&mut self)
-        ensures { self.new ≡ record self.old { kept = Err StoreFault.Memory; unkept = one_more self.old.unkept; pace = paced false self.old.pace } }
+        ensures { self.new ≡ record self.old {
+          kept = Err StoreFault.Memory;
+          unkept = one_more self.old.unkept;
+          pace = paced false self.old.pace;
+        } }
     {
         self.kept = Err(StoreFault::Memory);
         self.unkept = one_more(self.unkept);

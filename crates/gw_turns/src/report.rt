@@ -6,7 +6,10 @@ ghost use Rattle.gw_addr.specs.Address.{text_of};
 ghost use Rattle.gw_addr.specs.declared.TheConstants.{MAX_PORTS};
 ghost use Rattle.gw_tables.specs.bdt_fdt.Peers.{peers};
 ghost use Rattle.gw_tables.specs.declared.bdt_fdt.bdt.TheConstants.{MAX_ENTRIES};
-ghost use Rattle.gw_turns.specs.Reports.{HasGoneOn, announced_text, announcing_line, announcing_text, calls_text, culprit_line, culprit_text, culprits_text, drops_text, events_text, failing_line, field, fresh, has_gone_on, health_text, healths_text, peer_count, port_line, ports_text, refusals_text, registrations, report_line, report_of, restored_line, shown, tables_text, tally_text};
+ghost use Rattle.gw_turns.specs.Reports.{HasGoneOn, announced_text, announcing_line, announcing_text, calls_text, culprit_line};
+ghost use Rattle.gw_turns.specs.Reports.{culprit_text, culprits_text, drops_text, events_text, failing_line, field, fresh, has_gone_on};
+ghost use Rattle.gw_turns.specs.Reports.{health_text, healths_text, peer_count, port_line, ports_text, refusals_text, registrations};
+ghost use Rattle.gw_turns.specs.Reports.{report_line, report_of, restored_line, shown, tables_text, tally_text};
 
 use crate::announcing::Announcing;
 use crate::ports::{Health, PortSends, PortTally};

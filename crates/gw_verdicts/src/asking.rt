@@ -64,7 +64,8 @@ struct Answerer<'a> {
 }
 
 impl<'a> LineTranslator for Answerer<'a> {
-    ghost Translates = { λ answerer line text. IsAnswered answerer.config.now.rules (said_text answerer.config.now answerer.lines.now) line text };
+    ghost Translates = { λ answerer line text.
+        IsAnswered answerer.config.now.rules (said_text answerer.config.now answerer.lines.now) line text };
 
     ghost Refuses = { λ _ line. ShowsNoAsk line };
 
@@ -85,7 +86,8 @@ impl<'a> LineTranslator for Answerer<'a> {
 impl Answerer<'_> {
     /// Makes the answer to an ask that is shown.
     fn make_answer(&self, shown: &ShownAsk, text: &mut Vec<u8>) -> Result<(), AllocError>
-        ensures { OnOk result (text.new.items ≡ answer_to self.now.config.now.rules (said_text self.now.config.now self.now.lines.now) shown.now) }
+        ensures { OnOk result (text.new.items
+            ≡ answer_to self.now.config.now.rules (said_text self.now.config.now self.now.lines.now) shown.now) }
     {
         text.clear();
         self.put_answer(text, &shown.ask())
@@ -93,7 +95,8 @@ impl Answerer<'_> {
 
     /// Appends the answer to an ask.
     fn put_answer(&self, out: &mut Vec<u8>, ask: &Ask) -> Result<(), AllocError>
-        ensures { OnOk result (out.new.items ≡ out.old.items ++ answer self.now.config.now.rules (said_text self.now.config.now self.now.lines.now) ask.now) }
+        ensures { OnOk result (out.new.items ≡ out.old.items
+            ++ answer self.now.config.now.rules (said_text self.now.config.now self.now.lines.now) ask.now) }
     {
         let rules = self.config.rules();
         put_verdict(out, rules, ask)?;

@@ -141,7 +141,8 @@ impl<T: OctetSink + Drop, A: OctetSink + Drop> Watcher<T, A> {
 
     /// Watches what an event asked.
     fn watch(&mut self, gateway: &Gateway, asked: &SeenAsks)
-        ensures { (all : List Asked) → IsSeenOf (is_wanted self.old) all asked.now → Watches T.held A.held self.old gateway.now all self.new }
+        ensures { (all : List Asked) → IsSeenOf (is_wanted self.old) all asked.now
+            → Watches T.held A.held self.old gateway.now all self.new }
     {
         record_in(&mut self.trial, gateway, asked, &mut self.text);
         record_in(&mut self.audit, gateway, asked, &mut self.text);

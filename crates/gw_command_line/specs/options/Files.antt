@@ -1,5 +1,6 @@
 -- The files that a call uses, and which two of its options use one file.
-use Rattle.std.specs.Prelude.{◌&&◌, ◌||◌, not, Bool, true, false, List, [], ◌++◌, Option, Some, None, Result, Ok, Err, codes, find, is_some, nat_eq}
+use Rattle.std.specs.Prelude.{◌&&◌, ◌||◌, not, Bool, true, false, List, [], ◌++◌, Option, Some, None, Result, Ok, Err, codes, find, is_some}
+use Rattle.std.specs.Prelude.{nat_eq}
 use Rattle.std.specs.Cmp.Lexicographic.{pointwise}
 use Rattle.std.specs.Option.{option_and_then, option_map, option_to_list}
 use Rattle.clap.specs.Words.{Text}

@@ -2,7 +2,8 @@
 
 ghost use Rattle.std.specs.Prelude.{◌≡◌, ◌++◌, false, codes, find, option_copied, string_bytes, IfOk, OnOk};
 ghost use Rattle.std.specs.Option.{option_map};
-ghost use Rattle.gw_command_line.specs.options.Files.{clash, clash_line, clash_of, has_clash, option_name, reads, replaces, requests, writes};
+ghost use Rattle.gw_command_line.specs.options.Files.{clash, clash_line, clash_of, has_clash, option_name, reads, replaces, requests};
+ghost use Rattle.gw_command_line.specs.options.Files.{writes};
 
 use std::alloc::{AllocError, Global};
 use std::marker::Model;

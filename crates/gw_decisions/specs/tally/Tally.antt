@@ -1,5 +1,6 @@
 -- How many asks each rule of a policy decides.
-use Rattle.std.specs.Prelude.{◌≡◌, ℕ, ◌+◌, ◌-◌, ◌^◌, ◌<◌, ◌==◌, false, min, if◌then◌else◌, List, ◌++◌, length, count_by, slice_index, cond, codes, decimal, Option}
+use Rattle.std.specs.Prelude.{◌≡◌, ℕ, ◌+◌, ◌-◌, ◌^◌, ◌<◌, ◌==◌, false, min, if◌then◌else◌, List, ◌++◌, length, count_by, slice_index, cond}
+use Rattle.std.specs.Prelude.{codes, decimal, Option}
 use Rattle.std.specs.Option.{option_map_or}
 use Rattle.gw_rules.specs.Ask.{Ask}
 use Rattle.gw_rules.specs.Rule.{quiet_mark}

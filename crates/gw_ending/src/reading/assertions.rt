@@ -4,7 +4,8 @@ ghost use Rattle.std.specs.Prelude.{◌≡◌, ◌++◌, [], IfOk, OnOk};
 ghost use Rattle.std.specs.Io.Buffered.{writer_buffer, writer_contents};
 ghost use Rattle.gw_ending.specs.declared.fault.Fault.TheVariants as fault;
 ghost use Rattle.gw_ending.specs.reading.Printing.{LeavesEnding};
-ghost use Rattle.gw_ending.specs.reading.Assertions.{assertion_name, decider_name, do_hold, holds, judged_text, outcome_of_judged, unheld_line, unheld_text, unheld_words, verdict_text};
+ghost use Rattle.gw_ending.specs.reading.Assertions.{assertion_name, decider_name, do_hold, holds, judged_text, outcome_of_judged};
+ghost use Rattle.gw_ending.specs.reading.Assertions.{unheld_line, unheld_text, unheld_words, verdict_text};
 
 use crate::Fault;
 use crate::reading::configured::summary;

@@ -85,11 +85,13 @@ MetersAtTick m ticks after = MetersBy (is_due m.last ticks) m ticks after
 -- So it is at each tick, and at each try, of any store and text.
 abbrev pub TicksAreMetered : {S : Type 0} → (S → Option (List ℕ)) → Type 0
 TicksAreMetered {S} held =
-    (m after : Writing S) (ticks : ℕ) (text : List ℕ) → WritesAtTick held m ticks text after → MetersAtTick (metering_of m) ticks (metering_of after)
+    (m after : Writing S) (ticks : ℕ) (text : List ℕ) → WritesAtTick held m ticks text after
+    → MetersAtTick (metering_of m) ticks (metering_of after)
 
 abbrev pub TriesAreMetered : {S : Type 0} → (S → Option (List ℕ)) → Type 0
 TriesAreMetered {S} held =
-    (m after : Writing S) (ticks : ℕ) (text : List ℕ) → IsTried held m ticks text after → IsTriedAt (metering_of m) ticks (metering_of after)
+    (m after : Writing S) (ticks : ℕ) (text : List ℕ) → IsTried held m ticks text after
+    → IsTriedAt (metering_of m) ticks (metering_of after)
 
 -- a text was tried fewer than ten ticks before this one
 abbrev pub IsRecent : Option ℕ → ℕ → Type 0

@@ -1,6 +1,7 @@
 //! What is true of the text of metrics, and of the ticks at which it is written. The functions do nothing: their contracts are the laws.
 
-ghost use Rattle.gw_notices.specs.metrics.Laws.{CountersAreTotals, FamiliesAreOnce, LinesHaveNoFeed, NamesDiffer, OnlyEscapesAreRead, SamplesAreUnderTheirFamily, TextIsLines, ValuesAreReadBack};
+ghost use Rattle.gw_notices.specs.metrics.Laws.{CountersAreTotals, FamiliesAreOnce, LinesHaveNoFeed, NamesDiffer, OnlyEscapesAreRead};
+ghost use Rattle.gw_notices.specs.metrics.Laws.{SamplesAreUnderTheirFamily, TextIsLines, ValuesAreReadBack};
 ghost use Rattle.gw_notices.specs.metrics.Writing.{TicksAreMetered, TicksKeepRecent, TriesAreMetered};
 
 use gw_wire::Store;

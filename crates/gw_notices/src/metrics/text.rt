@@ -4,7 +4,10 @@ ghost use Rattle.std.specs.Prelude.{◌≡◌, ◌++◌, ◌+◌, [], ◌∷◌,
 ghost use Rattle.std.specs.List.{flat_map};
 ghost use Rattle.gw_script.specs.Order.{in_order};
 ghost use Rattle.gw_notices.specs.metrics.Family.{families};
-ghost use Rattle.gw_notices.specs.metrics.Text.{Count, Help, KindOf, build_samples, configuration_samples, decided_samples, decision_samples, drop_samples, family_lines, family_text, full_line, kept_samples, labelled, label_text, lines_text, lost_samples, metrics_text, number_if, plain, port_line, port_number, port_samples, reload_samples, rule_line, single, unkept_samples};
+ghost use Rattle.gw_notices.specs.metrics.Text.{Count, Help, KindOf, build_samples, configuration_samples, decided_samples};
+ghost use Rattle.gw_notices.specs.metrics.Text.{decision_samples, drop_samples, family_lines, family_text, full_line, kept_samples};
+ghost use Rattle.gw_notices.specs.metrics.Text.{labelled, label_text, lines_text, lost_samples, metrics_text, number_if, plain, port_line};
+ghost use Rattle.gw_notices.specs.metrics.Text.{port_number, port_samples, reload_samples, rule_line, single, unkept_samples};
 
 use crate::checksum::Checksum;
 use crate::metrics::counts::{Drops, GatewayCounts, PortCounts, Reloads, StateTries};

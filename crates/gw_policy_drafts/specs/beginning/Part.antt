@@ -1,5 +1,6 @@
 -- What a word of a call says of a site, and how it is written.
-use Rattle.std.specs.Prelude.{ℕ, ◌+◌, ◌-◌, ◌%◌, Bool, true, false, ◌&&◌, nat_le, nat_lt, if◌then◌else◌, List, [], ◌++◌, codes, decimal, Option, Some, None}
+use Rattle.std.specs.Prelude.{ℕ, ◌+◌, ◌-◌, ◌%◌, Bool, true, false, ◌&&◌, nat_le, nat_lt, if◌then◌else◌, List, [], ◌++◌, codes, decimal}
+use Rattle.std.specs.Prelude.{Option, Some, None}
 use Rattle.std.specs.Int.{from_be_bytes, w32}
 use Rattle.gw_addr.specs.Text.{four_text}
 use Rattle.gw_policy_drafts.specs.declared.beginning.part.SitePart.{SitePart}
@@ -43,7 +44,8 @@ udp_text None = []
 
 unfoldable pub word_of : SiteOption → SitePart → List ℕ
 word_of option part =
-    number_text (is_numbered option) part.number ++ (four_text part.ip ++ (prefix_text (has_prefix option) part.prefix ++ udp_text part.udp))
+    number_text (is_numbered option) part.number
+    ++ (four_text part.ip ++ (prefix_text (has_prefix option) part.prefix ++ udp_text part.udp))
 
 -- ---- the subnet
 

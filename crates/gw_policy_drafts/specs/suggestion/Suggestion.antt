@@ -1,6 +1,6 @@
 -- What rules that are suggested let through: exactly what the own rules of the asks do from which they are made.
-use Rattle.std.specs.Prelude.{◌≡◌, ◌⊎◌, ℕ, zero, suc, ◌+◌, ◌-◌, ◌<◌, Bool, true, false, ◌&&◌, nat_le, is_some, if◌then◌else◌, List, [], ◌∷◌, ◌++◌, length}
-use Rattle.std.specs.Prelude.{slice_get, Option, Some, None, Result, Ok, Err}
+use Rattle.std.specs.Prelude.{◌≡◌, ◌⊎◌, ℕ, zero, suc, ◌+◌, ◌-◌, ◌<◌, Bool, true, false, ◌&&◌, nat_le, is_some, if◌then◌else◌, List, [], ◌∷◌}
+use Rattle.std.specs.Prelude.{◌++◌, length, slice_get, Option, Some, None, Result, Ok, Err}
 use Rattle.std.specs.List.{AllByRecursion, list_all, list_any}
 use Rattle.std.specs.Option.{option_and_then}
 use Rattle.gw_ask_sets.specs.assertions.Judging.{AreJudged, IsBroken}
@@ -62,7 +62,8 @@ pub record HasInFront (old : Configuration) (suggested : List Rule) (c : Configu
   pub assertions : c.assertions ≡ old.assertions
 
 -- The text, put into a configuration's text, is read as the same with these rules in front.
-pub record IsInFront (old : Configuration) (text : List ℕ) (suggested : List Rule) (added : List ℕ) (configured : Configuration) : Type 0 where
+pub record IsInFront (old : Configuration) (text : List ℕ) (suggested : List Rule) (added : List ℕ)
+    (configured : Configuration) : Type 0 where
   pub front : List ℕ
   pub rest : List ℕ
   pub parts : text ≡ front ++ rest
@@ -118,7 +119,8 @@ pub record IsLeftOut (kept : List Rule) (before : List LeftOut) (found : Breakin
 -- what is suggested stays so, those that are left out with the others
 abbrev pub StaysSuggested : (kept : List Rule) → (left : List LeftOut) → (kept_then : List Rule) → (left_then : List LeftOut) → Type 0
 StaysSuggested kept left kept_then left_then =
-    (keeps : Bool) (asks : List Ask) → IsSuggestion keeps asks (kept ++ rules_of left) → IsSuggestion keeps asks (kept_then ++ rules_of left_then)
+    (keeps : Bool) (asks : List Ask) → IsSuggestion keeps asks (kept ++ rules_of left)
+    → IsSuggestion keeps asks (kept_then ++ rules_of left_then)
 
 -- where a rule stands, and the assertion for which it is left out
 abbrev pub found_at : ℕ → LeftOut → Breaking

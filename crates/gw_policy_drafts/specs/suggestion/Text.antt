@@ -206,7 +206,8 @@ abbrev pub place_of : Configuration → DraftSite
 place_of c = record { format = c.format; network = c.device.network }
 
 -- The text is of these rules and of those that are left out, and its comments are about these asks, each given so often.
-pub record IsTextOf (place : DraftSite) (assertions : List Assertion) (kept : List Rule) (left : List LeftOut) (asks : List Ask) (text : List ℕ) : Type 0 where
+pub record IsTextOf (place : DraftSite) (assertions : List Assertion) (kept : List Rule) (left : List LeftOut) (asks : List Ask)
+    (text : List ℕ) : Type 0 where
   pub weighted : List Weighted
   pub are_asks : map (λ each. each.ask) weighted ≡ asks
   pub apart : ℕ

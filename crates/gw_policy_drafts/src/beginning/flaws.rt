@@ -3,8 +3,10 @@
 ghost use Rattle.std.specs.Prelude.{◌≡◌, ◌==◌, ◌≤◌, ◌&&◌, [], find, is_some, length, take, drop};
 ghost use Rattle.gw_policy_drafts.specs.beginning.Part.{has_station};
 ghost use Rattle.std.specs.List.{list_any};
-ghost use Rattle.gw_policy_drafts.specs.beginning.Flaws.{first_flaw, flaw_of, is_at_port, is_beside, is_given, is_named, is_port, is_station, is_subnet, is_taken, lacks_udp, lacks_udp_of};
-ghost use Rattle.gw_policy_drafts.specs.beginning.Flaws.{manager_flaw, of_number, operator_flaw, or_else, overlaps_one, peer_flaw, port_flaw, router_flaw, wrong_from, wrong_in, wrong_of};
+ghost use Rattle.gw_policy_drafts.specs.beginning.Flaws.{first_flaw, flaw_of, is_at_port, is_beside, is_given, is_named, is_port};
+ghost use Rattle.gw_policy_drafts.specs.beginning.Flaws.{is_station, is_subnet, is_taken, lacks_udp, lacks_udp_of, manager_flaw, of_number};
+ghost use Rattle.gw_policy_drafts.specs.beginning.Flaws.{operator_flaw, or_else, overlaps_one, peer_flaw, port_flaw, router_flaw};
+ghost use Rattle.gw_policy_drafts.specs.beginning.Flaws.{wrong_from, wrong_in, wrong_of};
 ghost use Rattle.gw_policy_drafts.specs.beginning.Site.{site_of};
 
 use crate::beginning::fault::{Flaw, WrongWord};

@@ -2,7 +2,8 @@
 
 ghost use Rattle.std.specs.Prelude.{◌≡◌, ◌≤◌, ◌<◌, ◌^◌, IfOk, IfSome};
 ghost use Rattle.gw_addr.specs.Appending.{IsAppended};
-ghost use Rattle.gw_policy_drafts.specs.beginning.Part.{first_of, has_prefix, has_station, host_of, is_numbered, last_of, number_text, option_name, overlaps, prefix_text, udp_text, word_of};
+ghost use Rattle.gw_policy_drafts.specs.beginning.Part.{first_of, has_prefix, has_station, host_of, is_numbered, last_of, number_text};
+ghost use Rattle.gw_policy_drafts.specs.beginning.Part.{option_name, overlaps, prefix_text, udp_text, word_of};
 
 use crate::migration::size_of;
 use gw_addr::{Mask, put_decimal, put_octet};

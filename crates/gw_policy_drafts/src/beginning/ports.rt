@@ -4,7 +4,8 @@ ghost use Rattle.std.specs.Prelude.{◌≡◌, ◌+◌, ◌==◌, ◌++◌, ◌�
 ghost use Rattle.std.specs.Option.{option_map, option_map_or};
 ghost use Rattle.gw_policy_drafts.specs.beginning.Part.{has_station, host_of};
 ghost use Rattle.gw_policy_drafts.specs.beginning.Flaws.{of_number};
-ghost use Rattle.gw_policy_drafts.specs.beginning.Ports.{address_of, broadcast_of, entry_of, port_of, ports_of, route_of, routes_of, subnet_at, udp_of};
+ghost use Rattle.gw_policy_drafts.specs.beginning.Ports.{address_of, broadcast_of, entry_of, port_of, ports_of, route_of, routes_of};
+ghost use Rattle.gw_policy_drafts.specs.beginning.Ports.{subnet_at, udp_of};
 ghost use Rattle.gw_policy_drafts.specs.beginning.Site.{site_of};
 
 use crate::beginning::part::SitePart;

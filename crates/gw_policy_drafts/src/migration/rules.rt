@@ -1,9 +1,9 @@
 //! The rules of a configuration, as they are written in format 3.
 ghost use Rattle.std.specs.Prelude.{◌≡◌, ◌++◌, option_map, OnOk};
 ghost use Rattle.std.specs.List.{flat_map};
-ghost use Rattle.gw_policy_drafts.specs.migration.Items.{addresses_text, are_hosts, field_line, field_text, hosts_text, item_text, items_text};
-ghost use Rattle.gw_policy_drafts.specs.migration.Items.{name_of, next_item, numbers_text, operation_text, plain_text, quoted_host};
-ghost use Rattle.gw_policy_drafts.specs.migration.Items.{quoted_station, quoted_subnet, two_hosts, two_stations, value_text};
+ghost use Rattle.gw_policy_drafts.specs.migration.Items.{addresses_text, are_hosts, field_line, field_text, hosts_text, item_text};
+ghost use Rattle.gw_policy_drafts.specs.migration.Items.{items_text, name_of, next_item, numbers_text, operation_text, plain_text};
+ghost use Rattle.gw_policy_drafts.specs.migration.Items.{quoted_host, quoted_station, quoted_subnet, two_hosts, two_stations, value_text};
 
 use crate::migration::advice::put_rule_note;
 use crate::migration::lines::{put_quoted, put_text};

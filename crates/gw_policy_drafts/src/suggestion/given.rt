@@ -1,6 +1,7 @@
 //! The asks that are given, each once.
 ghost use Rattle.std.specs.Prelude.{◌≡◌, ◌∷◌, [], map, true, if◌then◌else◌, IfOk, IfSome, OnOk};
-ghost use Rattle.gw_policy_drafts.specs.suggestion.Given.{Adds, AddsAll, Has, HaveSame, akin, filled, filled_from, is_open, lacks_for, lacks_property, of_both};
+ghost use Rattle.gw_policy_drafts.specs.suggestion.Given.{Adds, AddsAll, Has, HaveSame, akin, filled, filled_from, is_open, lacks_for};
+ghost use Rattle.gw_policy_drafts.specs.suggestion.Given.{lacks_property, of_both};
 
 use crate::suggestion::fault::SuggestFault;
 use crate::suggestion::places::{Places, mixed};

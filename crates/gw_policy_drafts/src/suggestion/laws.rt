@@ -1,7 +1,8 @@
 //! What is allowed with rules that are suggested in front of a policy's. The functions do nothing: their
 //! contracts are the laws.
 ghost use Rattle.std.specs.Prelude.{◌≡◌};
-ghost use Rattle.gw_policy_drafts.specs.suggestion.Laws.{AllowsEach, AllowsNoOther, AllowsWhatMatches, FillsNoOther, LeavesNoneOut, OpensNothing};
+ghost use Rattle.gw_policy_drafts.specs.suggestion.Laws.{AllowsEach, AllowsNoOther, AllowsWhatMatches, FillsNoOther, LeavesNoneOut};
+ghost use Rattle.gw_policy_drafts.specs.suggestion.Laws.{OpensNothing};
 
 use crate::suggestion::given::MAX_ASKS;
 

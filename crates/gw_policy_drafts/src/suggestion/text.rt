@@ -4,11 +4,12 @@ ghost use Rattle.std.specs.List.{flat_map, list_all};
 ghost use Rattle.gw_rules.specs.Rule.{matches};
 ghost use Rattle.gw_rules.specs.declared.field.TheConstants.FieldName.{ALL};
 ghost use Rattle.gw_policy_drafts.specs.suggestion.Given.{is_open};
-ghost use Rattle.gw_policy_drafts.specs.suggestion.Text.{asserted_name, commented_line, last_text, left_line, left_ranges, left_table, left_text, unnamed_line};
-ghost use Rattle.gw_policy_drafts.specs.suggestion.Text.{any_line, apart_line, asks_line, counted_on, counted_text, is_for, is_own, is_request, is_traffic};
-ghost use Rattle.gw_policy_drafts.specs.suggestion.Text.{matters, may_name_station, next_plain_item, none_line, note_line, notes_text, open_asks_line, open_line};
-ghost use Rattle.gw_policy_drafts.specs.suggestion.Text.{plain_item, plain_items, plain_line, plain_value, ranges_line, rule_text, source_line};
-ghost use Rattle.gw_policy_drafts.specs.suggestion.Text.{suggestion_text, table_text, total, unread_line};
+ghost use Rattle.gw_policy_drafts.specs.suggestion.Text.{asserted_name, commented_line, last_text, left_line, left_ranges, left_table};
+ghost use Rattle.gw_policy_drafts.specs.suggestion.Text.{left_text, unnamed_line, any_line, apart_line, asks_line, counted_on};
+ghost use Rattle.gw_policy_drafts.specs.suggestion.Text.{counted_text, is_for, is_own, is_request, is_traffic, matters, may_name_station};
+ghost use Rattle.gw_policy_drafts.specs.suggestion.Text.{next_plain_item, none_line, note_line, notes_text, open_asks_line, open_line};
+ghost use Rattle.gw_policy_drafts.specs.suggestion.Text.{plain_item, plain_items, plain_line, plain_value, ranges_line, rule_text};
+ghost use Rattle.gw_policy_drafts.specs.suggestion.Text.{source_line, suggestion_text, table_text, total, unread_line};
 
 use crate::migration::{put_field, put_field_items, put_operation, put_quoted_station};
 use crate::suggestion::given::{Weighted, is_open};

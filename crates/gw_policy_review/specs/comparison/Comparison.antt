@@ -1,5 +1,6 @@
 -- What `bacgwctl compare` says of two configurations.
-use Rattle.std.specs.Prelude.{◌≡◌, ℕ, Bool, true, ◌==◌, not, if◌then◌else◌, IfSome, List, [], ◌∷◌, ◌++◌, length, codes, decimal, Option, Some, None}
+use Rattle.std.specs.Prelude.{◌≡◌, ℕ, Bool, true, ◌==◌, not, if◌then◌else◌, IfSome, List, [], ◌∷◌, ◌++◌, length, codes, decimal, Option}
+use Rattle.std.specs.Prelude.{Some, None}
 use Rattle.std.specs.List.Sorted.{IsNonDecreasingBy}
 use Rattle.std.specs.Option.{is_some}
 use Rattle.gw_configuration.specs.Configuration.{Configuration}

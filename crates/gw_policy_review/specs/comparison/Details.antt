@@ -1,5 +1,6 @@
 -- What is said of the parts in which two configurations differ, line by line.
-use Rattle.std.specs.Prelude.{ℕ, ℤ, ◌-◌, Bool, ◌&&◌, is_some, ◌==◌, nat_eq, if◌then◌else◌, List, [], ◌∷◌, ◌++◌, length, find, position, slice_get, codes, decimal, Option, Some, None, true, false}
+use Rattle.std.specs.Prelude.{ℕ, ℤ, ◌-◌, Bool, ◌&&◌, is_some, ◌==◌, nat_eq, if◌then◌else◌, List, [], ◌∷◌, ◌++◌, length, find, position}
+use Rattle.std.specs.Prelude.{slice_get, codes, decimal, Option, Some, None, true, false}
 use Rattle.std.specs.Cmp.Lexicographic.{pointwise}
 use Rattle.std.specs.Fmt.{signed_decimal}
 use Rattle.std.specs.List.{flat_map, list_any}

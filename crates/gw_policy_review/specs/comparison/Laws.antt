@@ -105,8 +105,8 @@ LinesHaveAsks = (old new : Configuration) (how : Manner) (made : Compared) (text
     (written : IsComparisonText old new how made text)
     → AllByRecursion (λ f. (lies f.region f.ask ≡ true) × IsAskOf old new f.ask) written.found
 
--- Where regions have lines: a field of a region that may be absent, but isn't just anything, is absent in such an ask that lies there: a line that
--- says `or none` of a field, or `without` it, has an ask without it.
+-- Where regions have lines: a field of a region that may be absent, but isn't just anything, is absent in such an ask that lies there: a
+-- line that says `or none` of a field, or `without` it, has an ask without it.
 abbrev pub NoneHasAsk : Type 0
 NoneHasAsk = (old new : Configuration) (how : Manner) (made : Compared) (text : List ℕ)
     (written : IsComparisonText old new how made text) → has_lines written.pairs ≡ true

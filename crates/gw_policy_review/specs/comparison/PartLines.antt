@@ -3,7 +3,9 @@ use Rattle.std.specs.Prelude.{ℕ, ◌-◌, List, [], length, slice_get, codes, 
 use Rattle.std.specs.List.{flat_map}
 use Rattle.gw_configuration.specs.Configuration.{Configuration}
 use Rattle.gw_configuration.specs.declared.port.Port.{Port}
-use Rattle.gw_policy_review.specs.comparison.Details.{audit_lines, device_lines, format_text, manager_line, names_lines, note_lines, objects_lines, peers_lines, port_head, quiet_lines, routes_lines, said, stations_lines, truth}
+use Rattle.gw_policy_review.specs.comparison.Details.{audit_lines, device_lines, format_text, manager_line, names_lines, note_lines}
+use Rattle.gw_policy_review.specs.comparison.Details.{objects_lines, peers_lines, port_head, quiet_lines, routes_lines, said}
+use Rattle.gw_policy_review.specs.comparison.Details.{stations_lines, truth}
 use Rattle.gw_addr.specs.Address.{text_of}
 use Rattle.gw_policy_review.specs.declared.comparison.parts.Part.{Part}
 use Rattle.gw_policy_review.specs.declared.comparison.parts.Part.TheVariants as parts

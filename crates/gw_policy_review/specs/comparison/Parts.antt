@@ -1,5 +1,6 @@
 -- The parts of two configurations beside what their rules decide, and which of them differ.
-use Rattle.std.specs.Prelude.{◌≡◌, ◌↔◌, ℕ, ◌+◌, Bool, false, ◌&&◌, ◌==◌, IsFalse, IsTrue, if◌then◌else◌, List, [], ◌∷◌, ◌++◌, length, map, min, slice_get, codes, decimal, Some}
+use Rattle.std.specs.Prelude.{◌≡◌, ◌↔◌, ℕ, ◌+◌, Bool, false, ◌&&◌, ◌==◌, IsFalse, IsTrue, if◌then◌else◌, List, [], ◌∷◌, ◌++◌, length, map}
+use Rattle.std.specs.Prelude.{min, slice_get, codes, decimal, Some}
 use Rattle.std.specs.List.{list_any}
 use Rattle.gw_configuration.specs.Configuration.{Configuration}
 use Rattle.gw_configuration.specs.Subnet.{Subnet, keys_of}

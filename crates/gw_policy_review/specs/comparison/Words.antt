@@ -1,6 +1,6 @@
 -- The words for the asks of a region. They are this project's own, the names in them the standard's.
-use Rattle.std.specs.Prelude.{ℕ, ◌-◌, ◌==◌, ◌&&◌, Bool, true, false, not, nat_le, if◌then◌else◌, List, [], ◌∷◌, ◌++◌, drop, find, length, map}
-use Rattle.std.specs.Prelude.{take, codes, decimal, Option}
+use Rattle.std.specs.Prelude.{ℕ, ◌-◌, ◌==◌, ◌&&◌, Bool, true, false, not, nat_le, if◌then◌else◌, List, [], ◌∷◌, ◌++◌, drop, find, length}
+use Rattle.std.specs.Prelude.{map, take, codes, decimal, Option}
 use Rattle.std.specs.Int.{to_be_bytes, w64}
 use Rattle.std.specs.List.{flat_map, list_all, range_with_len}
 use Rattle.std.specs.Option.{is_some, option_map_or}
@@ -19,9 +19,8 @@ use Rattle.gw_rules.specs.Field.{field_key}
 use Rattle.gw_rules.specs.Fields.{value_of}
 use Rattle.gw_rules.specs.Operation.{operation_name}
 use Rattle.gw_rules.specs.declared.field.FieldName.{FieldName}
-use Rattle.gw_rules.specs.declared.field.FieldName.TheVariants.{Port, SourceNetwork, SourceKey}
-use Rattle.gw_rules.specs.declared.field.FieldName.TheVariants.{DestinationNetwork, Service, ObjectType, Instance}
-use Rattle.gw_rules.specs.declared.field.FieldName.TheVariants.{Property, Priority, Sender, Station}
+use Rattle.gw_rules.specs.declared.field.FieldName.TheVariants.{Port, SourceNetwork, SourceKey, DestinationNetwork, Service, ObjectType}
+use Rattle.gw_rules.specs.declared.field.FieldName.TheVariants.{Instance, Property, Priority, Sender, Station}
 use Rattle.gw_rules.specs.declared.format.Format.TheVariants.{Three}
 use Rattle.gw_rules.specs.declared.operation.Operation.{Operation as SpecOperation}
 use Rattle.gw_rules.specs.declared.operation.TheConstants.Operation.{ALL}

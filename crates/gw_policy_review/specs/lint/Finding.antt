@@ -57,7 +57,8 @@ abbrev pub IsCounted : List Shape → List Rule → (number given count : ℕ) �
 IsCounted shapes rules number given count finding.MatchesNothing = count ≡ 0
 IsCounted shapes rules number given count (finding.TakenBy by) = count ≡ 0
 IsCounted shapes rules number given count finding.TakenTogether = IsSought shapes (all_tidied rules) number given count outcome.Never
-IsCounted shapes rules number given count (finding.Decides ask) = IsSought shapes (all_tidied rules) number given count (outcome.Decides ask)
+IsCounted shapes rules number given count (finding.Decides ask) =
+    IsSought shapes (all_tidied rules) number given count (outcome.Decides ask)
 IsCounted shapes rules number given count finding.Unknown = IsSought shapes (all_tidied rules) number given count outcome.Unknown
 
 -- for these, of the rules from a number on, one after the other: so many steps are left before, and after

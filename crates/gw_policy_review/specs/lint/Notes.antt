@@ -1,6 +1,6 @@
 -- Notes on rules that may not mean what they say. Each says when it is made; none is a theorem about the gateway.
-use Rattle.std.specs.Prelude.{◌≡◌, ℕ, ◌+◌, Bool, true, false, not, ◌&&◌, ◌||◌, ◌==◌, nat_lt, if◌then◌else◌, List, [], ◌∷◌, ◌++◌, length, find}
-use Rattle.std.specs.Prelude.{codes, decimal, position}
+use Rattle.std.specs.Prelude.{◌≡◌, ℕ, ◌+◌, Bool, true, false, not, ◌&&◌, ◌||◌, ◌==◌, nat_lt, if◌then◌else◌, List, [], ◌∷◌, ◌++◌, length}
+use Rattle.std.specs.Prelude.{find, codes, decimal, position}
 use Rattle.std.specs.List.{filter, flat_map, list_any}
 use Rattle.std.specs.Option.{option_map_or}
 use Rattle.gw_addr.specs.Address.{text_of}
@@ -25,8 +25,8 @@ use Rattle.gw_ask_sets.specs.declared.shapes.search.Outcome.{Outcome}
 use Rattle.gw_ask_sets.specs.declared.shapes.search.Outcome.TheVariants as outcome
 use Rattle.gw_ask_sets.specs.shapes.Shape.{Shape}
 use Rattle.gw_policy_review.specs.lint.Text.{rule_text}
-use Rattle.gw_policy_review.specs.lint.Trust.{ending_words, is_open_end, is_open_for, is_source_alone, is_source_network_alone}
-use Rattle.gw_policy_review.specs.lint.Trust.{port_words, reach_words, source_words}
+use Rattle.gw_policy_review.specs.lint.Trust.{ending_words, is_open_end, is_open_for, is_source_alone, is_source_network_alone, port_words}
+use Rattle.gw_policy_review.specs.lint.Trust.{reach_words, source_words}
 use Rattle.gw_policy_review.specs.warnings.Oversights.{admits_number, is_station, share}
 
 -- `note: rule <number> <name>: look at <words>` and a line feed

@@ -1,7 +1,7 @@
 -- What a configuration surely lacks, though all that it has may be meant, and the lines that say it. They follow the warnings of
 -- `Warnings.antt`.
-use Rattle.std.specs.Prelude.{ℕ, ◌+◌, ◌-◌, ◌*◌, ◌%◌, ◌^◌, ◌==◌, Bool, ◌&&◌, ◌||◌, not, is_some, if◌then◌else◌, List, [], ◌∷◌, ◌++◌, length, position, take}
-use Rattle.std.specs.Prelude.{codes, decimal, Some}
+use Rattle.std.specs.Prelude.{ℕ, ◌+◌, ◌-◌, ◌*◌, ◌%◌, ◌^◌, ◌==◌, Bool, ◌&&◌, ◌||◌, not, is_some, if◌then◌else◌, List, [], ◌∷◌, ◌++◌, length}
+use Rattle.std.specs.Prelude.{position, take, codes, decimal, Some}
 use Rattle.std.specs.List.{list_all, list_any}
 use Rattle.std.specs.Option.{option_map_or}
 use Rattle.gw_addr.specs.Address.{text_of}
@@ -77,7 +77,8 @@ overlap_words subnet other =
 
 abbrev pub overlap_line : ℕ → ℕ → Subnet → ℕ → List ℕ
 overlap_line number item subnet other =
-    codes "warning: port " ++ (decimal number ++ (codes ": stations: item " ++ (decimal item ++ (codes ": " ++ overlap_words subnet other))))
+    codes "warning: port " ++ (decimal number ++ (codes ": stations: item "
+    ++ (decimal item ++ (codes ": " ++ overlap_words subnet other))))
 
 -- for each subnet of a port's stations, with the first port before it of which that is so
 abbrev pub overlap_lines : List Port → ℕ → Port → ℕ → Subnet → List ℕ

@@ -28,8 +28,8 @@ use Rattle.gw_policy_review.specs.warnings.Subnet.{has_holes, is_elsewhere, is_l
 use Rattle.gw_policy_review.specs.declared.warnings.spot.Spot.{Spot}
 use Rattle.gw_policy_review.specs.declared.warnings.spot.Spot.TheVariants.{Address, Broadcast, PeerAddress, PeerMask, Next}
 use Rattle.gw_policy_review.specs.declared.warnings.oddity.Oddity.{Oddity}
-use Rattle.gw_policy_review.specs.declared.warnings.oddity.Oddity.TheVariants.{ZeroPort, LowPort, Multicast, OtherPort, OffSubnet, Limited, IsBroadcast}
-use Rattle.gw_policy_review.specs.declared.warnings.oddity.Oddity.TheVariants.{IsOwn, Elsewhere}
+use Rattle.gw_policy_review.specs.declared.warnings.oddity.Oddity.TheVariants.{ZeroPort, LowPort, Multicast, OtherPort, OffSubnet, Limited}
+use Rattle.gw_policy_review.specs.declared.warnings.oddity.Oddity.TheVariants.{IsBroadcast, IsOwn, Elsewhere}
 
 -- ---- words
 

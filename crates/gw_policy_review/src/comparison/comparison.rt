@@ -2,7 +2,9 @@
 ghost use Rattle.std.specs.Prelude.{◌≡◌, true, ◌++◌, ◌∷◌, ◌==◌, [], codes, decimal, if◌then◌else◌, length, IfOk, List, OnErr, OnOk};
 ghost use Rattle.std.specs.List.Sorted.{IsNonDecreasingBy, IsPermutation};
 ghost use Rattle.gw_policy_review.specs.comparison.Asks.{asks_of};
-ghost use Rattle.gw_policy_review.specs.comparison.Comparison.{AreResults, IsComparisonText, asks_text, by_both_text, by_pairs_text, by_regions_text, compared_by, ending_text, judged_by, kinds_text, manner_of, paired_by, rank};
+ghost use Rattle.gw_policy_review.specs.comparison.Comparison.{AreResults, IsComparisonText, asks_text, by_both_text, by_pairs_text};
+ghost use Rattle.gw_policy_review.specs.comparison.Comparison.{by_regions_text, compared_by, ending_text, judged_by, kinds_text, manner_of};
+ghost use Rattle.gw_policy_review.specs.comparison.Comparison.{paired_by, rank};
 ghost use Rattle.gw_ask_sets.specs.regions.Comparing.{IsComparison, IsSummary};
 ghost use Rattle.gw_ask_sets.specs.regions.Presence.{OrNoneIsMeant};
 ghost use Rattle.gw_ask_sets.specs.regions.Pairs.{findings};

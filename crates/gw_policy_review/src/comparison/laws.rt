@@ -1,7 +1,9 @@
 //! What the text of a comparison says of the asks of two configurations. The functions do nothing: their
 //! contracts are the laws.
 ghost use Rattle.std.specs.Prelude.{◌≡◌};
-ghost use Rattle.gw_policy_review.specs.comparison.Laws.{AlikeIsAlike, AlikeIsLike, AlikeIsLogged, EachHasOneGroup, FoundIsAll, LikeHasNone, LinesAreTrue, LinesHaveAsks, NoPlaceIsNamed, NoneDiffers, NoneHasAsk, OperationHasAsk, PairsAreAll, PairsHaveAsks, RestIsMeant, SubnetIsRange};
+ghost use Rattle.gw_policy_review.specs.comparison.Laws.{AlikeIsAlike, AlikeIsLike, AlikeIsLogged, EachHasOneGroup, FoundIsAll};
+ghost use Rattle.gw_policy_review.specs.comparison.Laws.{LikeHasNone, LinesAreTrue, LinesHaveAsks, NoPlaceIsNamed, NoneDiffers, NoneHasAsk};
+ghost use Rattle.gw_policy_review.specs.comparison.Laws.{OperationHasAsk, PairsAreAll, PairsHaveAsks, RestIsMeant, SubnetIsRange};
 
 use crate::comparison::MOST_UNGROUPED;
 

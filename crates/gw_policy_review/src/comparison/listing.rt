@@ -1,9 +1,11 @@
 //! Lines on what is now, and was.
-ghost use Rattle.std.specs.Prelude.{◌≡◌, ◌++◌, ◌==◌, ◌∷◌, [], codes, decimal, find, is_some, if◌then◌else◌, length, nat_eq, Bool, IfOk, List, OnOk, Option, ℕ};
+ghost use Rattle.std.specs.Prelude.{◌≡◌, ◌++◌, ◌==◌, ◌∷◌, [], codes, decimal, find, is_some, if◌then◌else◌, length, nat_eq, Bool, IfOk};
+ghost use Rattle.std.specs.Prelude.{List, OnOk, Option, ℕ};
 ghost use Rattle.std.specs.Cmp.Lexicographic.{pointwise};
 ghost use Rattle.std.specs.List.{flat_map};
 ghost use Rattle.std.specs.Option.{option_map};
-ghost use Rattle.gw_policy_review.specs.comparison.Details.{each_text, number_change, or_else, order_line, quoted, said, text_change, words_change};
+ghost use Rattle.gw_policy_review.specs.comparison.Details.{each_text, number_change, or_else, order_line, quoted, said, text_change};
+ghost use Rattle.gw_policy_review.specs.comparison.Details.{words_change};
 
 use gw_configuration::{Text, put_shown};
 use std::alloc::{AllocError, Global};

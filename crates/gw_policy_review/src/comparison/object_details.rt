@@ -3,9 +3,10 @@ ghost use Rattle.std.specs.Prelude.{◌≡◌, ◌++◌, ◌≤◌, codes, decim
 ghost use Rattle.std.specs.Fmt.{signed_decimal};
 ghost use Rattle.std.specs.Option.{option_map};
 ghost use Rattle.gw_script.specs.Order.{in_order};
-ghost use Rattle.gw_policy_review.specs.comparison.Details.{bit, changed_object, integer_lines, device_lines, identity_lines, is_same_object, kind_text};
-ghost use Rattle.gw_policy_review.specs.comparison.Details.{maker_lines, object_change, object_gone, object_head, object_words};
-ghost use Rattle.gw_policy_review.specs.comparison.Details.{state_line, states_lines, text_change, value_lines, version_lines, words_change};
+ghost use Rattle.gw_policy_review.specs.comparison.Details.{bit, changed_object, integer_lines, device_lines, identity_lines};
+ghost use Rattle.gw_policy_review.specs.comparison.Details.{is_same_object, kind_text, maker_lines, object_change, object_gone};
+ghost use Rattle.gw_policy_review.specs.comparison.Details.{object_head, object_words, state_line, states_lines, text_change, value_lines};
+ghost use Rattle.gw_policy_review.specs.comparison.Details.{version_lines, words_change};
 
 use crate::comparison::listing::{Thing, put_number_change, put_text_change, put_words_change};
 use gw_addr::{put_slice, put_text_number};

@@ -4,7 +4,8 @@ ghost use Rattle.std.specs.List.{flat_map};
 ghost use Rattle.std.specs.Option.{is_some};
 ghost use Rattle.gw_ask_sets.specs.regions.Pairs.{AreSought};
 ghost use Rattle.gw_policy_review.specs.comparison.Comparison.{has_lines};
-ghost use Rattle.gw_policy_review.specs.comparison.PairLines.{given_up_text, known_of, more_pairs_text, now_by_text, pair_text, pairs_text, was_by_text};
+ghost use Rattle.gw_policy_review.specs.comparison.PairLines.{given_up_text, known_of, more_pairs_text, now_by_text, pair_text, pairs_text};
+ghost use Rattle.gw_policy_review.specs.comparison.PairLines.{was_by_text};
 
 use crate::comparison::lines::{put_name, verdict};
 use crate::comparison::naming::Names;

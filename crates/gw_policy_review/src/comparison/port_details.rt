@@ -6,8 +6,9 @@ ghost use Rattle.gw_addr.specs.Address.{text_of};
 ghost use Rattle.gw_configuration.specs.Configuration.{is_same_address};
 ghost use Rattle.gw_configuration.specs.Subnet.{keys_of};
 ghost use Rattle.gw_policy_review.specs.comparison.Details.{by_mask, has_some, is_same_peer, is_same_route, manager_line, manager_text};
-ghost use Rattle.gw_policy_review.specs.comparison.Details.{peer_change, peer_gone, peer_words, port_head, replaced, route_change, route_gone};
-ghost use Rattle.gw_policy_review.specs.comparison.Details.{route_words, said, stations_lines, subnet_line, subnet_lines, way_text};
+ghost use Rattle.gw_policy_review.specs.comparison.Details.{peer_change, peer_gone, peer_words, port_head, replaced, route_change};
+ghost use Rattle.gw_policy_review.specs.comparison.Details.{route_gone, route_words, said, stations_lines, subnet_line, subnet_lines};
+ghost use Rattle.gw_policy_review.specs.comparison.Details.{way_text};
 ghost use Rattle.gw_policy_review.specs.comparison.PartLines.{of_both, port_part_lines};
 
 use crate::comparison::listing::{Thing, put_said, put_things, put_three};

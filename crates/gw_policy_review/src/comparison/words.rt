@@ -8,10 +8,11 @@ ghost use Rattle.gw_ask_sets.specs.regions.Values.{has_operation};
 ghost use Rattle.gw_rules.specs.Operation.{operation_name};
 ghost use Rattle.gw_rules.specs.declared.operation.TheConstants.Operation.{ALL};
 ghost use Rattle.gw_policy_review.specs.comparison.Words.{any_of, are_subnets, end_text, host_of, is_keyed, is_same_range, is_subnet};
-ghost use Rattle.gw_policy_review.specs.comparison.Words.{item_text, items, last_of, named_text, names_stations, noun_of, numbers_of, octet_text};
-ghost use Rattle.gw_policy_review.specs.comparison.Words.{numbers_text, operations_of, operations_text, other_text, others_text, possible};
-ghost use Rattle.gw_policy_review.specs.comparison.Words.{prefix_of, prefixes, range_text, region_text, rest_of, span_text, standard_text};
-ghost use Rattle.gw_policy_review.specs.comparison.Words.{subnet_from, subnet_words, these_text, values_text, word_of};
+ghost use Rattle.gw_policy_review.specs.comparison.Words.{item_text, items, last_of, named_text, names_stations, noun_of, numbers_of};
+ghost use Rattle.gw_policy_review.specs.comparison.Words.{octet_text, numbers_text, operations_of, operations_text, other_text};
+ghost use Rattle.gw_policy_review.specs.comparison.Words.{others_text, possible, prefix_of, prefixes, range_text, region_text, rest_of};
+ghost use Rattle.gw_policy_review.specs.comparison.Words.{span_text, standard_text, subnet_from, subnet_words, these_text, values_text};
+ghost use Rattle.gw_policy_review.specs.comparison.Words.{word_of};
 
 use gw_addr::{Mask, Sequence, put_decimal};
 use gw_ask_sets::ask_text::put_station;

@@ -1,4 +1,5 @@
-//! What a note on broadcasts says, which rules are left out, and the limits of a search. The functions do nothing: their contracts are the laws.
+//! What a note on broadcasts says, which rules are left out, and the limits of a search. The functions do nothing: their
+//! contracts are the laws.
 ghost use Rattle.std.specs.Prelude.{◌≡◌};
 ghost use Rattle.gw_policy_review.specs.lint.Laws.{NoBroadcastIsAllowed};
 ghost use Rattle.gw_policy_review.specs.lint.Text.{OwnRulesAreSaid};

@@ -6,7 +6,8 @@ ghost use Rattle.gw_ask_sets.specs.declared.shapes.search.Outcome.TheVariants.{N
 ghost use Rattle.gw_policy_review.specs.lint.Notes.{AreAnswerNotes, AreNotes, ArePortNotes, AreUnnamed, IsCastNote, IsNoteOnAnswers, IsWay};
 ghost use Rattle.gw_policy_review.specs.lint.Notes.{answer_words, cast_note, field_notes, has_overlap, head_text, is_known, is_unknown};
 ghost use Rattle.gw_policy_review.specs.lint.Notes.{lacks_broadcast, lets_unnamed, network_note, network_words, note_text, object_note};
-ghost use Rattle.gw_policy_review.specs.lint.Notes.{overlap_note, overlap_words, rule_notes, stations_note, stations_words, unnamed_if, way_note};
+ghost use Rattle.gw_policy_review.specs.lint.Notes.{overlap_note, overlap_words, rule_notes, stations_note, stations_words, unnamed_if};
+ghost use Rattle.gw_policy_review.specs.lint.Notes.{way_note};
 ghost use Rattle.gw_policy_review.specs.permissions.Texts.{Appends, AreInTurn};
 ghost use Rattle.gw_script.specs.Order.{in_order};
 

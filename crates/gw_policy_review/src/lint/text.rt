@@ -33,8 +33,8 @@ impl Lint<'_> {
     /// Appends the lines of what is found of the rules, in their order.
     pub(crate) fn put_lines(&self, out: &mut Vec<u8>) -> Result<(), AllocError>
         requires { length self.now.findings.now ≡ length self.now.config.now.rules }
-        ensures { OnOk result (out.new.items ≡ out.old.items
-            ++ in_order (line_text self.now.explains self.now.config.now self.now.lines.now self.now.findings.now) 1 self.now.findings.now) }
+        ensures { let them = self.now.findings.now in OnOk result (out.new.items ≡ out.old.items
+            ++ in_order (line_text self.now.explains self.now.config.now self.now.lines.now them) 1 them) }
     {
         let count = self.config.rules().rules().len();
         for place in 0..count {

@@ -2,10 +2,10 @@
 ghost use Rattle.std.specs.Prelude.{◌≡◌, ◌++◌, ◌-◌, ◌≤◌, length, take, IfOk, OnOk};
 ghost use Rattle.std.specs.List.{flat_map};
 ghost use Rattle.gw_script.specs.Order.{in_order};
-ghost use Rattle.gw_policy_review.specs.permissions.Allowances.{AppendsAllowances, allowance_line, allowances_text, asks_words};
-ghost use Rattle.gw_policy_review.specs.permissions.Allowances.{by_words, doubt_words};
-ghost use Rattle.gw_policy_review.specs.permissions.Allowances.{exception_text, exception_words, exceptions_text, field_words, is_exception, meet};
-ghost use Rattle.gw_policy_review.specs.permissions.Allowances.{network_words, operation_words, ranges_words, stops, what_words, who_words};
+ghost use Rattle.gw_policy_review.specs.permissions.Allowances.{AppendsAllowances, allowance_line, allowances_text, asks_words, by_words};
+ghost use Rattle.gw_policy_review.specs.permissions.Allowances.{doubt_words, exception_text, exception_words, exceptions_text, field_words};
+ghost use Rattle.gw_policy_review.specs.permissions.Allowances.{is_exception, meet, network_words, operation_words, ranges_words, stops};
+ghost use Rattle.gw_policy_review.specs.permissions.Allowances.{what_words, who_words};
 
 use crate::comparison::words::{put_operations, put_ranges, put_word};
 use crate::lint::{Finding, findings_of};

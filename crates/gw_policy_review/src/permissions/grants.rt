@@ -1,8 +1,9 @@
 //! What rules let others do than the stations of a port and the routers of a network.
 ghost use Rattle.std.specs.Prelude.{◌≡◌, ◌++◌, ◌≤◌, length, IfOk, OnOk};
 ghost use Rattle.gw_policy_review.specs.permissions.Passing.{finding_at, lets};
-ghost use Rattle.gw_policy_review.specs.permissions.Permissions.{AppendsGrants, every_words, extent_words, found_words, grant_line, grant_words, grants_or_none};
-ghost use Rattle.gw_policy_review.specs.permissions.Permissions.{grants_text, head_words, maybe_words, none_words, some_words};
+ghost use Rattle.gw_policy_review.specs.permissions.Permissions.{AppendsGrants, every_words, extent_words, found_words, grant_line};
+ghost use Rattle.gw_policy_review.specs.permissions.Permissions.{grant_words, grants_or_none, grants_text, head_words, maybe_words};
+ghost use Rattle.gw_policy_review.specs.permissions.Permissions.{none_words, some_words};
 
 use crate::lint::{Finding, findings_of};
 use crate::permissions::passing::decides_all;

@@ -3,10 +3,11 @@ ghost use Rattle.std.specs.Prelude.{◌≡◌, ◌++◌, ◌≤◌, length, IfOk
 ghost use Rattle.std.specs.List.{flat_map};
 ghost use Rattle.gw_script.specs.Order.{in_order};
 ghost use Rattle.gw_ask_sets.specs.shapes.Shapes.{some};
-ghost use Rattle.gw_policy_review.specs.permissions.Permissions.{AreObjectLines, AreProperties, AreReadings, AreRevealing, IsHiding, IsListed, IsProperty};
-ghost use Rattle.gw_policy_review.specs.permissions.Permissions.{IsRead, hidden_line, hidden_words, identifier_words, is_hidden, list_line};
-ghost use Rattle.gw_policy_review.specs.permissions.Permissions.{name_words, network_reads, object_list, object_words, plain_lines, point_of};
-ghost use Rattle.gw_policy_review.specs.permissions.Permissions.{property_line, property_words, reads_words};
+ghost use Rattle.gw_policy_review.specs.permissions.Permissions.{AreObjectLines, AreProperties, AreReadings, AreRevealing, IsHiding};
+ghost use Rattle.gw_policy_review.specs.permissions.Permissions.{IsListed, IsProperty, IsRead, hidden_line, hidden_words, identifier_words};
+ghost use Rattle.gw_policy_review.specs.permissions.Permissions.{is_hidden, list_line, name_words, network_reads, object_list};
+ghost use Rattle.gw_policy_review.specs.permissions.Permissions.{object_words, plain_lines, point_of, property_line, property_words};
+ghost use Rattle.gw_policy_review.specs.permissions.Permissions.{reads_words};
 ghost use Rattle.gw_policy_review.specs.permissions.Texts.{Appends, AreInTurn};
 
 use crate::permissions::passing::{Passage, is_never, search_allowed};

@@ -2,8 +2,9 @@
 ghost use Rattle.std.specs.Prelude.{◌≡◌, ◌++◌, IfOk, OnOk};
 ghost use Rattle.std.specs.List.{flat_map};
 ghost use Rattle.gw_policy_review.specs.permissions.Questions.{entering};
-ghost use Rattle.gw_policy_review.specs.permissions.Permissions.{AppendsEntries, AppendsGrants, AppendsPort, AppendsPorts, everyone_words, foreign_words};
-ghost use Rattle.gw_policy_review.specs.permissions.Permissions.{managed_words, manager_words, named_words, stations_words, subnet_words};
+ghost use Rattle.gw_policy_review.specs.permissions.Permissions.{AppendsEntries, AppendsGrants, AppendsPort, AppendsPorts, everyone_words};
+ghost use Rattle.gw_policy_review.specs.permissions.Permissions.{foreign_words, managed_words, manager_words, named_words, stations_words};
+ghost use Rattle.gw_policy_review.specs.permissions.Permissions.{subnet_words};
 
 use crate::numbered::NumberedPort;
 use crate::permissions::grants::{Deed, Inquiry, put_grants};

@@ -2,7 +2,8 @@
 ghost use Rattle.std.specs.Prelude.{◌≡◌, ◌≤◌, ◌<◌, length};
 ghost use Rattle.gw_addr.specs.Appending.{IsAppended};
 ghost use Rattle.gw_script.specs.Order.{in_order};
-ghost use Rattle.gw_policy_review.specs.warnings.Warnings.{allowing, peers_lines, register_ask, register_line, register_lines, registering_lines};
+ghost use Rattle.gw_policy_review.specs.warnings.Warnings.{allowing, peers_lines, register_ask, register_line, register_lines};
+ghost use Rattle.gw_policy_review.specs.warnings.Warnings.{registering_lines};
 
 use crate::warnings::port_warnings::is_same;
 use crate::warnings::spot::{Spot, put_spot};

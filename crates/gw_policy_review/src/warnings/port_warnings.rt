@@ -3,7 +3,8 @@ ghost use Rattle.std.specs.Prelude.{◌≡◌, ◌==◌, position};
 ghost use Rattle.gw_addr.specs.Appending.{IsAppended};
 ghost use Rattle.gw_configuration.specs.Duplicates.{key};
 ghost use Rattle.gw_script.specs.Order.{in_order};
-ghost use Rattle.gw_policy_review.specs.warnings.Warnings.{broadcast_lines, has_low_port, has_zero_port, other_than, own_lines, owner, peer_lines, port_lines, unusual_lines};
+ghost use Rattle.gw_policy_review.specs.warnings.Warnings.{broadcast_lines, has_low_port, has_zero_port, other_than, own_lines, owner};
+ghost use Rattle.gw_policy_review.specs.warnings.Warnings.{peer_lines, port_lines, unusual_lines};
 
 use crate::warnings::oddity::{Oddity, put_mask, put_owned, put_where};
 use crate::warnings::spot::Spot;

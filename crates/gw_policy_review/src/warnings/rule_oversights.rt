@@ -7,8 +7,9 @@ ghost use Rattle.gw_rules.specs.Bounds.{is_within};
 ghost use Rattle.gw_rules.specs.Range.{holds};
 ghost use Rattle.gw_rules.specs.Rule.{each_field};
 ghost use Rattle.gw_script.specs.Order.{in_order};
-ghost use Rattle.gw_policy_review.specs.warnings.Oversights.{admits_number, admits_passage, asks_beyond, behind_line, behind_lines, behinds_lines, carries_field, front_words};
-ghost use Rattle.gw_policy_review.specs.warnings.Oversights.{is_behind, is_carried, is_of_port, is_of_some_port, is_unsent, may_carry, names_near_stations, passes_to};
+ghost use Rattle.gw_policy_review.specs.warnings.Oversights.{admits_number, admits_passage, asks_beyond, behind_line, behind_lines};
+ghost use Rattle.gw_policy_review.specs.warnings.Oversights.{behinds_lines, carries_field, front_words, is_behind, is_carried, is_of_port};
+ghost use Rattle.gw_policy_review.specs.warnings.Oversights.{is_of_some_port, is_unsent, may_carry, names_near_stations, passes_to};
 ghost use Rattle.gw_policy_review.specs.warnings.Oversights.{rule_oversights, share, unsent_lines, unsent_of, unsent_words};
 
 use crate::permissions::Placed;

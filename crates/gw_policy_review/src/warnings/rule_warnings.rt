@@ -2,7 +2,9 @@
 ghost use Rattle.std.specs.Prelude.{◌≡◌, ◌++◌, codes, decimal};
 ghost use Rattle.gw_addr.specs.Appending.{IsAppended};
 ghost use Rattle.gw_script.specs.Order.{in_order};
-ghost use Rattle.gw_policy_review.specs.warnings.Warnings.{cut_line, cut_lines, ends_words, is_cut, is_missing, item_words, missing_line, missing_lines, none_line, none_lines, range_word, range_words, rule_lines, with_udp};
+ghost use Rattle.gw_policy_review.specs.warnings.Warnings.{cut_line, cut_lines, ends_words, is_cut, is_missing, item_words, missing_line};
+ghost use Rattle.gw_policy_review.specs.warnings.Warnings.{missing_lines, none_line, none_lines, range_word, range_words, rule_lines};
+ghost use Rattle.gw_policy_review.specs.warnings.Warnings.{with_udp};
 
 use crate::warnings::spot::{put_name, put_numbered};
 use crate::warnings::subnet::number_of;

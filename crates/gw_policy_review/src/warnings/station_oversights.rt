@@ -4,9 +4,10 @@ ghost use Rattle.std.specs.List.{list_all, list_any};
 ghost use Rattle.gw_ask_sets.specs.shapes.Meeting.{overlaps};
 ghost use Rattle.gw_configuration.specs.Subnet.{keys_of, subnet_holds};
 ghost use Rattle.gw_script.specs.Order.{in_order};
-ghost use Rattle.gw_policy_review.specs.warnings.Oversights.{apart_line, apart_lines, enter_ask, first_address, has_stations, is_accounted, is_apart};
-ghost use Rattle.gw_policy_review.specs.warnings.Oversights.{is_left_out, is_near, is_station, is_unheard, overlap_line, overlap_lines, port_oversights, shares_with};
-ghost use Rattle.gw_policy_review.specs.warnings.Oversights.{hostless_line, hostless_lines, hostless_words, is_hostless, overlap_words, unheard_line, unheard_lines};
+ghost use Rattle.gw_policy_review.specs.warnings.Oversights.{apart_line, apart_lines, enter_ask, first_address, has_stations, is_accounted};
+ghost use Rattle.gw_policy_review.specs.warnings.Oversights.{is_apart, is_left_out, is_near, is_station, is_unheard, overlap_line};
+ghost use Rattle.gw_policy_review.specs.warnings.Oversights.{overlap_lines, port_oversights, shares_with, hostless_line, hostless_lines};
+ghost use Rattle.gw_policy_review.specs.warnings.Oversights.{hostless_words, is_hostless, overlap_words, unheard_line, unheard_lines};
 
 use crate::warnings::port_warnings::is_same;
 use crate::warnings::subnet::has_beside;

@@ -1,7 +1,8 @@
 //! Subnets of IPv4, as far as an own and a broadcast address show them, and masks.
 ghost use Rattle.std.specs.Prelude.{◌≡◌, ◌<◌, ◌^◌, ◌==◌, ◌&&◌};
 ghost use Rattle.std.specs.List.{list_any};
-ghost use Rattle.gw_policy_review.specs.warnings.Subnet.{has_holes, is_beside, is_broadcast_for, is_elsewhere, is_limited, is_multicast, is_off_subnet, is_subnet, number_of, sizes};
+ghost use Rattle.gw_policy_review.specs.warnings.Subnet.{has_holes, is_beside, is_broadcast_for, is_elsewhere, is_limited, is_multicast};
+ghost use Rattle.gw_policy_review.specs.warnings.Subnet.{is_off_subnet, is_subnet, number_of, sizes};
 
 use gw_addr::BipAddr;
 

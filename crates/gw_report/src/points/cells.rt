@@ -2,7 +2,8 @@
 
 ghost use Rattle.std.specs.Prelude.{◌≡◌, ◌++◌, ◌∷◌, [], map, IfOk, OnOk};
 ghost use Rattle.std.specs.List.{flat_map, list_any};
-ghost use Rattle.gw_report.specs.points.Cells.{begins_wide, cell_text, doubled, guarded, is_marked, is_one_of, is_risky, marks, next_text, quoted, risks, row_text};
+ghost use Rattle.gw_report.specs.points.Cells.{begins_wide, cell_text, doubled, guarded, is_marked, is_one_of, is_risky, marks, next_text};
+ghost use Rattle.gw_report.specs.points.Cells.{quoted, risks, row_text};
 
 use gw_addr::{put_octet, put_slice};
 use std::alloc::{AllocError, Global};

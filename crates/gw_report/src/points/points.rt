@@ -5,7 +5,9 @@ ghost use Rattle.std.specs.List.{flat_map};
 ghost use Rattle.gw_report.specs.points.Cells.{next_text, row_text};
 ghost use Rattle.gw_report.specs.points.internal.View.{point_view};
 ghost use Rattle.gw_codecs.specs.names.Names.{object_type_name};
-ghost use Rattle.gw_report.specs.points.Points.{cells, column_row, default_cell, device_point, header_rows, identity_cells, key_of, limits_cells, object_point, point_row, points_text, setting_rows, settable_cell, units_cell, value_cells};
+ghost use Rattle.gw_report.specs.points.Points.{cells, column_row, default_cell, device_point, header_rows, identity_cells, key_of};
+ghost use Rattle.gw_report.specs.points.Points.{limits_cells, object_point, point_row, points_text, setting_rows, settable_cell};
+ghost use Rattle.gw_report.specs.points.Points.{units_cell, value_cells};
 
 use crate::points::cells::{guarded, put_cell, put_end, put_next, put_row};
 use gw_addr::{keep_whole, put_decimal, put_octet, put_slice};

@@ -7,7 +7,8 @@ use Rattle.gw_core.specs.History.{next}
 use Rattle.gw_core.specs.Lasting.{lasts}
 use Rattle.gw_core.specs.Resumed.{saved_of}
 use Rattle.gw_core.specs.State.{State}
-use Rattle.gw_turns.specs.Keeping.{HasPassed, IsHeld, IsRecent, IsTried, IsTriedLast, IsUnkept, IsUpToDate, KeepsAtTick, Keeping, due_of, is_ahead, lasting_of}
+use Rattle.gw_turns.specs.Keeping.{HasPassed, IsHeld, IsRecent, IsTried, IsTriedLast, IsUnkept, IsUpToDate, KeepsAtTick, Keeping, due_of}
+use Rattle.gw_turns.specs.Keeping.{is_ahead, lasting_of}
 use Rattle.gw_turns.specs.Serve.{Turn}
 use Rattle.gw_turns.specs.Stretch.{EndsFaulty, EndsStretch, Moment, asked_until}
 use Rattle.gw_core.specs.declared.guard.BothGuards.{BothGuards}
@@ -159,9 +160,9 @@ abbrev pub IsRecentIn : {S : Type 0} → Kept S → State → Type 0
 IsRecentIn {S} kept w = (k : Keeping S) → kept ≡ In k → IsRecent k.kept (saved_of k.origin w)
 
 abbrev pub RunsKeepRecent : {S L : Type 0} → (S → Option (List ℕ)) → (L → Option (List ℕ)) → Type 0
-RunsKeepRecent {S} {L} held log_held = (how : Reporting) (stops : Bool) (s t : Stage (BothGuards (Watching L L) (Kept S))) (turns : List Turn)
-    (look : Look) (text : List ℕ) → IsTicked (watched_manner_of held log_held how) stops s turns look text t →
-    IsRecentIn t.now.guard.second t.now.scene.gateway
+RunsKeepRecent {S} {L} held log_held = (how : Reporting) (stops : Bool)
+    (s t : Stage (BothGuards (Watching L L) (Kept S))) (turns : List Turn) (look : Look) (text : List ℕ)
+    → IsTicked (watched_manner_of held log_held how) stops s turns look text t → IsRecentIn t.now.guard.second t.now.scene.gateway
 
 -- The store holds the text of a state fewer than 600 ticks ago.
 abbrev pub HoldsYoung : Option (List ℕ) → State → Type 0

@@ -1,6 +1,8 @@
 //! Laws of what is saved of a gateway and of what is taken over, for each configuration that is accepted. The functions
 //! change nothing: their contracts are the laws.
-ghost use Rattle.gw_state_laws.specs.continuity.Laws.{HistoriesGoOn, NoTablesAreSaved, NothingIsLost, OnlyLastingChanges, RunsGoOn, SlotsAreCarried, SlotsAreKept, SlotsAreSaved, SlotsGoOn, StatesAreCarried, StatesAreKept, StatesGoOn, TablesAgree, ValuesStayInRange};
+ghost use Rattle.gw_state_laws.specs.continuity.Laws.{HistoriesGoOn, NoTablesAreSaved, NothingIsLost, OnlyLastingChanges, RunsGoOn};
+ghost use Rattle.gw_state_laws.specs.continuity.Laws.{SlotsAreCarried, SlotsAreKept, SlotsAreSaved, SlotsGoOn, StatesAreCarried};
+ghost use Rattle.gw_state_laws.specs.continuity.Laws.{StatesAreKept, StatesGoOn, TablesAgree, ValuesStayInRange};
 
 use crate::continuity::accepted::accepted;
 use gw_configuration::Config;

@@ -1,6 +1,9 @@
 //! Laws of a keeper that guards a gateway, over any store. The functions do nothing: their contracts are the laws.
 ghost use Rattle.gw_service.specs.Kept.{Given};
-ghost use Rattle.gw_state_laws.specs.keeping.Laws.{AnsweredIsKept, CurrentIsUpToDate, FaultsKeep, FirstIsCurrent, HeldStays, KeptIsAhead, KeptIsUpToDate, KeptIsYoung, PausesKeep, RunsEndCurrent, RunsKeepCurrent, RunsKeepLast, RunsKeepRecent, TicksKeepCurrent, TriedIsCurrent, TriedLastIsCurrent, WithheldIsOldOrNew};
+ghost use Rattle.gw_state_laws.specs.keeping.Laws.{AnsweredIsKept, CurrentIsUpToDate, FaultsKeep, FirstIsCurrent, HeldStays, KeptIsAhead};
+ghost use Rattle.gw_state_laws.specs.keeping.Laws.{KeptIsUpToDate, KeptIsYoung, PausesKeep, RunsEndCurrent, RunsKeepCurrent, RunsKeepLast};
+ghost use Rattle.gw_state_laws.specs.keeping.Laws.{RunsKeepRecent, TicksKeepCurrent, TriedIsCurrent, TriedLastIsCurrent};
+ghost use Rattle.gw_state_laws.specs.keeping.Laws.{WithheldIsOldOrNew};
 
 use gw_script::OctetSink;
 use gw_system::Requests;

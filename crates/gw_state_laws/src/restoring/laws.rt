@@ -4,7 +4,8 @@
 ghost use Rattle.std.specs.Prelude.{IsFalse};
 ghost use Rattle.gw_configuration.specs.Duplicates.{has_duplicates};
 ghost use Rattle.gw_state_laws.specs.restoring.Laws.{CountsLeaveThemSo, NewOnesAre, ReloadedOnesAre, ResumedOnesAre, TheyStaySo};
-ghost use Rattle.gw_state_laws.specs.restoring.Laws.{NumberedOnesAreRead, NumberedOnesFit, SavedOnesAreRead, SavedOnesAreRestored, SavedOnesFit};
+ghost use Rattle.gw_state_laws.specs.restoring.Laws.{NumberedOnesAreRead, NumberedOnesFit, SavedOnesAreRead, SavedOnesAreRestored};
+ghost use Rattle.gw_state_laws.specs.restoring.Laws.{SavedOnesFit};
 
 use crate::continuity::laws::{nothing_is_lost, slots_are_kept, states_are_kept};
 use crate::restoring::typed::typed;

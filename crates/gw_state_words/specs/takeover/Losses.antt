@@ -1,7 +1,8 @@
 -- What of a saved state is dropped, by kinds.
 use Rattle.std.specs.Prelude.{ℕ, Bool, not, ◌==◌, ◌&&◌, if◌then◌else◌, Option, Some, None}
 use Rattle.gw_state_words.specs.declared.takeover.finding.TakeoverFinding.{TakeoverFinding}
-use Rattle.gw_state_words.specs.declared.takeover.finding.TakeoverFinding.TheVariants.{Port, NewPort, LostPort, Route, Value, NewObject, LostObject}
+use Rattle.gw_state_words.specs.declared.takeover.finding.TakeoverFinding.TheVariants.{Port, NewPort, LostPort, Route, Value, NewObject}
+use Rattle.gw_state_words.specs.declared.takeover.finding.TakeoverFinding.TheVariants.{LostObject}
 use Rattle.gw_state_words.specs.declared.takeover.finding.HeldPlace.{HeldPlace}
 use Rattle.gw_state_words.specs.declared.takeover.finding.HeldPlace.TheVariants.{Slot, Default}
 use Rattle.gw_state_words.specs.declared.takeover.finding.Loss.{Loss}

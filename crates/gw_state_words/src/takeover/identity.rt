@@ -2,7 +2,8 @@
 ghost use Rattle.std.specs.Prelude.{◌≡◌};
 ghost use Rattle.std.specs.List.{list_any};
 ghost use Rattle.gw_state.specs.Carried.{is_object, is_port};
-ghost use Rattle.gw_state_words.specs.takeover.Findings.{absence_of, is_same_object, is_same_port, object_name, object_absence, port_absence, port_name};
+ghost use Rattle.gw_state_words.specs.takeover.Findings.{absence_of, is_same_object, is_same_port, object_name, object_absence};
+ghost use Rattle.gw_state_words.specs.takeover.Findings.{port_absence, port_name};
 ghost use Rattle.gw_codecs.specs.tags.Object.{object_view};
 
 use crate::takeover::{Absence, ObjectName, PortName};

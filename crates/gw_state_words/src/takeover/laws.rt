@@ -1,7 +1,9 @@
 //! Laws of what is taken over. The functions do nothing: their contracts are the laws.
 ghost use Rattle.gw_state.specs.declared.port.SavedPort.{SavedPort};
 ghost use Rattle.gw_state.specs.Saved.{SavedObject};
-ghost use Rattle.gw_state_words.specs.takeover.Laws.{DefaultsAreAsSaid, DevicesAreCounted, DroppedSlotsAreEmpty, FirstsAreFound, FullTablesAreFull, LostObjectsAreLost, LostPortsAreLost, PortsAreAsSaid, RoutesAreAsSaid, SlotsAreAsSaid};
+ghost use Rattle.gw_state_words.specs.takeover.Laws.{DefaultsAreAsSaid, DevicesAreCounted, DroppedSlotsAreEmpty, FirstsAreFound};
+ghost use Rattle.gw_state_words.specs.takeover.Laws.{FullTablesAreFull, LostObjectsAreLost, LostPortsAreLost, PortsAreAsSaid};
+ghost use Rattle.gw_state_words.specs.takeover.Laws.{RoutesAreAsSaid, SlotsAreAsSaid};
 
 /// What is said of a configured port is so of the tables that it takes over. A saved port is said to be
 /// dropped exactly if no configured port takes anything over of it. The foreign devices that are said to be

@@ -3,7 +3,8 @@ ghost use Rattle.std.specs.Prelude.{◌≡◌, ◌++◌, ◌∷◌, [], option_c
 ghost use Rattle.std.specs.List.{flat_map};
 ghost use Rattle.gw_objects.specs.Objects.{details_of};
 ghost use Rattle.gw_state.specs.Saved.{id_of};
-ghost use Rattle.gw_state_words.specs.takeover.Findings.{default_fate_by, default_finding, object_finding, object_findings, object_name, slot_finding, slot_findings, value_fate, value_finding};
+ghost use Rattle.gw_state_words.specs.takeover.Findings.{default_fate_by, default_finding, object_finding, object_findings, object_name};
+ghost use Rattle.gw_state_words.specs.takeover.Findings.{slot_finding, slot_findings, value_fate, value_finding};
 
 use crate::takeover::lost::is_written;
 use crate::takeover::{HeldPlace, ObjectName, TakeoverFinding, ValueFate, ValueFinding};

@@ -1,7 +1,8 @@
 //! What is found of ports.
 ghost use Rattle.std.specs.Prelude.{◌≡◌, ◌≤◌, ◌++◌, length, option_copied, OnOk};
 ghost use Rattle.gw_addr.specs.declared.TheConstants.{MAX_PORTS};
-ghost use Rattle.gw_state_words.specs.takeover.Findings.{device_count, devices_kept, devices_of, port_finding, port_findings, sizes_of, table_fate};
+ghost use Rattle.gw_state_words.specs.takeover.Findings.{device_count, devices_kept, devices_of, port_finding, port_findings, sizes_of};
+ghost use Rattle.gw_state_words.specs.takeover.Findings.{table_fate};
 
 use crate::takeover::{PortName, Sizes, TableFate, TakeoverFinding};
 use gw_configuration::Port;

@@ -1,7 +1,8 @@
 //! What is found of learned routes.
 ghost use Rattle.std.specs.Prelude.{◌≡◌, ◌++◌, find, map, nat_eq, option_copied, IfOk, OnOk};
 ghost use Rattle.std.specs.List.{list_any};
-ghost use Rattle.gw_state_words.specs.takeover.Findings.{fate_beside, finding_of_route, is_own, is_routed, is_same_route, refusal, route_fate, route_finding, routes_kept};
+ghost use Rattle.gw_state_words.specs.takeover.Findings.{fate_beside, finding_of_route, is_own, is_routed, is_same_route, refusal};
+ghost use Rattle.gw_state_words.specs.takeover.Findings.{route_fate, route_finding, routes_kept};
 
 use crate::takeover::{RouteFate, RouteFinding, TakeoverFinding};
 use gw_addr::NetNum;

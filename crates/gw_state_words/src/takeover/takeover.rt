@@ -2,7 +2,8 @@
 ghost use Rattle.std.specs.Prelude.{◌≡◌, ◌++◌, IfOk, OnOk};
 ghost use Rattle.std.specs.List.{flat_map};
 ghost use Rattle.gw_tables.specs.routes.Table.{Routed};
-ghost use Rattle.gw_state_words.specs.takeover.Findings.{findings_with, lost_objects, lost_ports, object_findings, port_findings, take_over};
+ghost use Rattle.gw_state_words.specs.takeover.Findings.{findings_with, lost_objects, lost_ports, object_findings, port_findings};
+ghost use Rattle.gw_state_words.specs.takeover.Findings.{take_over};
 
 use crate::takeover::TakeoverFinding;
 use crate::takeover::lost::{add_lost_objects, add_lost_ports};

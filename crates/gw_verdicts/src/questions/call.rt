@@ -3,8 +3,10 @@
 ghost use Rattle.std.specs.Prelude.{◌≡◌, ◌<◌, ◌++◌, option_map, IfOk, OnOk};
 ghost use Rattle.std.specs.List.{list_any};
 ghost use Rattle.gw_frames.specs.npdu.Npdu as npdus;
-ghost use Rattle.gw_verdicts.specs.questions.Calls.{accepts, batch_accepts, batch_hears, hears};
-ghost use Rattle.gw_verdicts.specs.questions.Calls.{IsAudienceIn, IsCallAnswer, IsRegistrationOf, IsWhoIsOf, all_hear, asker_of, audience_at, audience_of, call_octets, call_text, end_text, is_done, is_heard, may_call, port_of_network, registration_by, who_is_from, who_is_octets, who_is_to, why_of};
+ghost use Rattle.gw_verdicts.specs.questions.Calls.{accepts, batch_accepts, batch_hears, hears, IsAudienceIn, IsCallAnswer};
+ghost use Rattle.gw_verdicts.specs.questions.Calls.{IsRegistrationOf, IsWhoIsOf, all_hear, asker_of, audience_at, audience_of, call_octets};
+ghost use Rattle.gw_verdicts.specs.questions.Calls.{call_text, end_text, is_done, is_heard, may_call, port_of_network, registration_by};
+ghost use Rattle.gw_verdicts.specs.questions.Calls.{who_is_from, who_is_octets, who_is_to, why_of};
 
 use crate::questions::answer::{QuestionAnswer, event_of, outcome_of, put_no, reaches};
 use crate::questions::datagram::{carried, datagram_of, framed, source_of};

@@ -8,7 +8,8 @@ ghost use Rattle.gw_frames.specs.bvll.Reading.{bvll_at};
 ghost use Rattle.gw_frames.specs.npdu.Npdu.{address_view};
 ghost use Rattle.gw_frames.specs.npdu.Npdu as npdus;
 ghost use Rattle.gw_frames.specs.npdu.Reading.{npdu_at};
-ghost use Rattle.gw_verdicts.specs.questions.Datagrams.{IsDatagram, answer_apdu, answer_of, confirmed, datagram_of, has_result, message_of, read_answer, request_apdu, request_of, served_answer, source_of};
+ghost use Rattle.gw_verdicts.specs.questions.Datagrams.{IsDatagram, answer_apdu, answer_of, confirmed, datagram_of, has_result, message_of};
+ghost use Rattle.gw_verdicts.specs.questions.Datagrams.{read_answer, request_apdu, request_of, served_answer, source_of};
 
 use crate::questions::deed::Deed;
 use crate::questions::place::{Question, Station};

@@ -2,7 +2,9 @@
 
 ghost use Rattle.std.specs.Prelude.{◌≡◌, ◌≤◌, IfSome, option_map};
 ghost use Rattle.gw_codecs.specs.services.Read.{read_view};
-ghost use Rattle.gw_verdicts.specs.questions.Deeds.{IsDeedOf, IsDeedToWrite, IsNumberOr, IsPriorityIn, IsPropertyOf, IsReadIn, deed_of_service, deed_text, deed_to_read, deed_view, read_by, read_named, result_of, written};
+ghost use Rattle.gw_verdicts.specs.questions.Deeds.{IsDeedOf, IsDeedToWrite, IsNumberOr, IsPriorityIn, IsPropertyOf, IsReadIn};
+ghost use Rattle.gw_verdicts.specs.questions.Deeds.{deed_of_service, deed_text, deed_to_read, deed_view, read_by, read_named, result_of};
+ghost use Rattle.gw_verdicts.specs.questions.Deeds.{written};
 ghost use Rattle.gw_verdicts.specs.questions.Read.{IsNumberIn, parted};
 
 use crate::questions::fault::Unasked;

@@ -4,8 +4,11 @@ ghost use Rattle.std.specs.Prelude.{◌≡◌, ◌+◌, ◌==◌, ◌<◌, [], �
 ghost use Rattle.std.specs.List.{find};
 ghost use Rattle.gw_addr.specs.Address.{IsAddress};
 ghost use Rattle.hex.specs.Hex.{decode_of};
-ghost use Rattle.gw_verdicts.specs.questions.Places.{first_with, has_station, local, local_station, mac_of, only_from, place_of, routed, routed_station, station_at, station_by, station_on};
-ghost use Rattle.gw_verdicts.specs.questions.Read.{IsAddressIn, IsAddressStation, IsNetworkBefore, IsNetworkIn, IsNumberIn, IsSpelledIn, IsSpelledStation, IsStationOf, IsTargetIn, IsTargetOf, IsWritten, after_hex, mac_in, parted, spelled_by};
+ghost use Rattle.gw_verdicts.specs.questions.Places.{first_with, has_station, local, local_station, mac_of, only_from, place_of, routed};
+ghost use Rattle.gw_verdicts.specs.questions.Places.{routed_station, station_at, station_by, station_on};
+ghost use Rattle.gw_verdicts.specs.questions.Read.{IsAddressIn, IsAddressStation, IsNetworkBefore, IsNetworkIn, IsNumberIn, IsSpelledIn};
+ghost use Rattle.gw_verdicts.specs.questions.Read.{IsSpelledStation, IsStationOf, IsTargetIn, IsTargetOf, IsWritten, after_hex, mac_in};
+ghost use Rattle.gw_verdicts.specs.questions.Read.{parted, spelled_by};
 
 use crate::questions::deed::Deed;
 use crate::questions::fault::PlaceFault;

@@ -8,7 +8,8 @@ ghost use Rattle.gw_core.specs.Effects.{effects_at};
 ghost use Rattle.gw_core.specs.History.{next};
 ghost use Rattle.gw_log_words.specs.Words.{words};
 ghost use Rattle.gw_script.specs.Event.{event_view};
-ghost use Rattle.gw_verdicts.specs.questions.Answers.{ask_line, batch_lines, logged, port_text, sent_line, step_text, target_lines, way_line};
+ghost use Rattle.gw_verdicts.specs.questions.Answers.{ask_line, batch_lines, logged, port_text, sent_line, step_text, target_lines};
+ghost use Rattle.gw_verdicts.specs.questions.Answers.{way_line};
 
 use gw_addr::{BipAddr, put_decimal, put_octet, put_slice};
 use gw_audit::laws::fits;

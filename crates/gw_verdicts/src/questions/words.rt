@@ -3,7 +3,8 @@
 ghost use Rattle.std.specs.Prelude.{◌≡◌, ◌++◌, codes, option_map, IfOk};
 ghost use Rattle.gw_addr.specs.Appending.{IsAppended};
 ghost use Rattle.gw_verdicts.specs.questions.Unasked.{place_words, unasked_text};
-ghost use Rattle.gw_verdicts.specs.questions.Words.{IsAnswerTo, IsCallAnswered, IsDeedAnswered, IsQuestionOf, IsUnasked, are_by_one_port, is_service_of_device, joined, question_by, question_text};
+ghost use Rattle.gw_verdicts.specs.questions.Words.{IsAnswerTo, IsCallAnswered, IsDeedAnswered, IsQuestionOf, IsUnasked, are_by_one_port};
+ghost use Rattle.gw_verdicts.specs.questions.Words.{is_service_of_device, joined, question_by, question_text};
 ghost use Rattle.gw_verdicts.specs.questions.Deeds.{deed_text};
 
 use crate::questions::answer::{AnswerKind, QuestionAnswer, answer_question};
