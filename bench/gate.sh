@@ -25,6 +25,7 @@ git -C "$clone" checkout -q --detach "$(git -C "$top" rev-parse HEAD)"
 # Runs the gate from nothing, passes on what it prints, and writes its last line and what the run cost to the file.
 python3 - "$clone" "$work/cost" <<'PYTHON'
 import os
+import re
 import resource
 import subprocess
 import sys
@@ -119,7 +120,8 @@ with open(report + ".log", "wb") as log, open(report + ".log", "rb") as told:
         sys.stdout.buffer.write(more)
         sys.stdout.flush()
         text += more
-last = text.decode(errors="replace").rstrip().rpartition("\n")[2]
+verdicts = [line for line in text.decode(errors="replace").splitlines() if re.fullmatch(r"\d+ passed, \d+ failed", line)]
+last = verdicts[-1] if verdicts else ""
 wall = time.monotonic() - start
 used = resource.getrusage(resource.RUSAGE_CHILDREN)
 total = used.ru_utime + used.ru_stime
