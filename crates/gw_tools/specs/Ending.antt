@@ -9,7 +9,6 @@ use Rattle.gw_ending.specs.Ending.{fault_of_words, line_by, status_after}
 use Rattle.gw_ending.specs.reading.Places.{PlaceText}
 use Rattle.gw_ending.specs.declared.fault.Fault.{Fault}
 use Rattle.gw_ending.specs.declared.fault.Fault.TheVariants as fault
-use Rattle.gw_tool_line.specs.declared.options.Shown.{Shown}
 
 -- the file that the configuration of a choice is read from, or the first of two; nothing if it names none
 abbrev pub first_file : Result Choice Fault → List ℕ

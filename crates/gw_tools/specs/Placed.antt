@@ -1,7 +1,6 @@
 -- A configuration that was read, with the lines of its text on which the tables of its rules begin.
 use Rattle.std.specs.Prelude.{◌≡◌, ℕ, List, [], Result, Ok, Err}
 use Rattle.gw_policy_text.specs.Lines.{table_lines}
-use Rattle.gw_configuration.specs.Configuration.{Configuration}
 use Rattle.gw_ending.specs.declared.fault.Fault.{Fault}
 use Rattle.gw_ending.specs.reading.Configured.{IsConfigurationOf}
 use Rattle.gw_tools.specs.declared.placed.Placed.{Placed}

@@ -4,7 +4,6 @@ use Rattle.std.specs.Prelude.{◌≡◌, ⊤, Bool, true, false, ℕ, List, [], 
 use Rattle.std.specs.Prelude.{string_bytes}
 use Rattle.std.specs.Io.KnownBytes.{Appends}
 use Rattle.gw_script.specs.Known.{OnKnown}
-use Rattle.gw_configuration.specs.Configuration.{Configuration}
 use Rattle.gw_report.specs.points.Points.{points_text}
 use Rattle.gw_tool_line.specs.declared.command_line.Choice.{Choice}
 use Rattle.gw_tool_line.specs.declared.command_line.Choice.TheVariants as choice
@@ -15,7 +14,6 @@ use Rattle.gw_tools.specs.declared.asking.Answering.{Answering}
 use Rattle.gw_ending.specs.declared.fault.Fault.{Fault}
 use Rattle.gw_ending.specs.declared.fault.Fault.TheVariants as fault
 use Rattle.gw_tools.specs.Asking.{Answers, Counts, ReportsUnread, asks_in}
-use Rattle.gw_ending.specs.reading.Configured.{IsConfigured}
 use Rattle.gw_tools.specs.Placed.{IsPlacedIn}
 use Rattle.gw_tools.specs.declared.comparing.Layout.TheVariants as layout
 use Rattle.gw_tools.specs.declared.comparing.Limits.{Limits}

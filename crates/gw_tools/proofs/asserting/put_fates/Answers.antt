@@ -1,4 +1,4 @@
-use Rattle.std.proofs.Common.{length, rules, ◌≡◌, ◌<◌, ◌≤◌, ◌+◌, [], drop, subst}
+use Rattle.std.proofs.Common.{length, rules, ◌≡◌, ◌<◌, ◌≤◌, ◌+◌, [], subst}
 use Rattle.std.proofs.lemmas.List.{drop_all}
 use Rattle.gw_configuration.specs.declared.assertion.Assertion.{Assertion}
 use Rattle.gw_tools.specs.Asserting.{IsFateText, TellsFates}

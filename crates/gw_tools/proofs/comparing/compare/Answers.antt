@@ -1,7 +1,6 @@
 use Rattle.std.proofs.Common.{rules, ◌≡◌, Result, Ok, subst, sym}
 use Rattle.gw_ending.specs.declared.fault.Fault.{Fault}
-use Rattle.gw_tools.specs.Comparing.{AreProgress, IsCompared, ReportsProgress, SaysCompared}
-use Rattle.gw_tools.specs.Saying.{SaysOfBoth}
+use Rattle.gw_tools.specs.Comparing.{AreProgress, ReportsProgress}
 use Rattle.gw_tools.specs.declared.placed.Placed.{Placed}
 use Rattle.gw_tools.proofs.comparing.compare.Goals as goal
 

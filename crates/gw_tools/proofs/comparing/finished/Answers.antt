@@ -1,5 +1,4 @@
-use Rattle.std.proofs.Common.{◌∙◌, [], refl, subst, ℕ, List}
-use Rattle.std.specs.Io.KnownBytes.{Appends}
+use Rattle.std.proofs.Common.{◌∙◌, [], refl, subst}
 use Rattle.gw_configuration.specs.Configuration.{Configuration}
 use Rattle.gw_notices.proofs.AppendLemmas.{appends_nothing}
 use Rattle.gw_tools.specs.Comparing.{AreProgress}

@@ -1,4 +1,4 @@
-use Rattle.std.proofs.Common.{[], ap, refl, subst, true, ℕ, List, length}
+use Rattle.std.proofs.Common.{[], subst, true, ℕ, length}
 use Rattle.std.specs.Io.KnownBytes.{Appends}
 use Rattle.gw_tools.specs.Comparing.{progress_line}
 use Rattle.gw_tools.proofs.comparing.report_second.Goals as goal

@@ -1,4 +1,4 @@
-use Rattle.std.proofs.Common.{rules, ◌≡◌, [], ℕ, List, Option, Some, None, Result, Ok, Err, false, ap, refl, subst, sym}
+use Rattle.std.proofs.Common.{rules, ◌≡◌, [], Option, Some, None, Result, Ok, Err, false, ap, refl, subst, sym}
 use Rattle.std.specs.Io.Buffered.{writer_contents}
 use Rattle.gw_ending.specs.declared.fault.Fault.{Fault}
 use Rattle.gw_ending.specs.declared.reading.printing.Said.{Said}
