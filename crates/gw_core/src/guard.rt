@@ -101,6 +101,7 @@ impl<G: Guard, H: Guard> Guard for BothGuards<G, H> {
         self.first.watches() || self.second.watches()
     }
 
+    #[inline(always)]
     fn keeps(&self, ask: &Ask, by: Option<u16>, is_allowed: bool) -> bool {
         self.first.keeps(ask, by, is_allowed) || self.second.keeps(ask, by, is_allowed)
     }

@@ -77,6 +77,7 @@ impl<K: Guard> Guard for Holding<K> {
         self.keeper.watches()
     }
 
+    #[inline(always)]
     fn keeps(&self, ask: &Ask, by: Option<u16>, is_allowed: bool) -> bool {
         self.keeper.keeps(ask, by, is_allowed)
     }

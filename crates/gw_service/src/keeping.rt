@@ -88,6 +88,7 @@ impl<S: Store + Drop> Guard for Kept<S> {
         false
     }
 
+    #[inline(always)]
     fn keeps(&self, _ask: &Ask, _by: Option<u16>, _is_allowed: bool) -> bool {
         false
     }

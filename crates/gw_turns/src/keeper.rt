@@ -311,6 +311,7 @@ impl<S: Store + Drop> Guard for Keeper<S> {
         false
     }
 
+    #[inline(always)]
     fn keeps(&self, _ask: &Ask, _by: Option<u16>, _is_allowed: bool) -> bool {
         false
     }
