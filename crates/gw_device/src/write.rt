@@ -14,6 +14,7 @@ use crate::short::{error, simple_ack};
 use crate::{Access, Answer, Change, Served};
 use gw_codecs::apdu::ServiceError;
 use gw_codecs::services::{WRITE_PROPERTY, WriteReq};
+use gw_objects::AskedWrite;
 use gw_rules::{Ask, Asker, Operation, Service};
 use std::alloc::{AllocError, Global};
 
@@ -57,14 +58,14 @@ impl Access<'_> {
         ensures place { IfOk result (λ decision. IfOk decision (λ change.
             change.place < length self.now.objects.now.configured.objects)) }
     {
-        match self.objects.check(
-            alloc,
-            request.object,
-            request.property,
-            request.index,
-            request.command_priority(),
-            request.value,
-        ) {
+        let write = AskedWrite {
+            id: request.object,
+            property: request.property,
+            index: request.index,
+            priority: request.command_priority(),
+            value: request.value,
+        };
+        match self.objects.check(alloc, &write) {
             Ok(put) => Ok(Ok(Change::new(put))),
             Err(fault) => Ok(Err(write_error(fault)?)),
         }

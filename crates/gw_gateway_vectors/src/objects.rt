@@ -3,7 +3,7 @@
 use crate::configurations;
 use gw_cases::{number, octets_of, put_octets, wanted};
 use gw_codecs::tags::ObjectId;
-use gw_objects::{ObjectDb, ObjectType, PropertySet, properties};
+use gw_objects::{AskedWrite, ObjectDb, ObjectType, PropertySet, properties};
 use std::alloc::Global;
 use std::io;
 use std::io::{ErrorKind, Write};
@@ -84,7 +84,14 @@ fn write(
     let Ok(priority @ 1..=16) = command.0.parse::<u8>() else {
         return Err(ErrorKind::InvalidData.into());
     };
-    match db.check(alloc, object, property, index, priority, &value) {
+    let write = AskedWrite {
+        id: object,
+        property,
+        index,
+        priority,
+        value: &value,
+    };
+    match db.check(alloc, &write) {
         Ok(put) => {
             db.put(put);
             write!(out, "ok")

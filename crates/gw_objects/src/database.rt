@@ -175,27 +175,13 @@ impl ObjectDb {
     /// 1 `UnknownObject`, 2 `UnknownProperty`, 3 `NotWritable`, 4 `NotArray`, 5 `Reserved`, 6
     /// `WrongKind`, 7 `CharacterSet`, 8 `OutOfRange`, 9 `NoSpace` and 10 `Memory`, as
     /// [`WriteFault`] says. `Memory` comes only where no other fault is due and the value is a text.
-    pub fn check(
-        &self,
-        alloc: Global,
-        id: ObjectId,
-        property: u32,
-        index: Option<u32>,
-        priority: u8,
-        value: &[u8],
-    ) -> Result<Put, WriteFault>
-        requires { IsPriority priority }
+    pub fn check(&self, alloc: Global, write: &AskedWrite<'_>) -> Result<Put, WriteFault>
+        requires { IsPriority write.now.priority }
         ensures write { Decides (λ put. put) writes_text result
-            (write_of self.now.configured (object_view id) property index priority value.now) }
+            (write_of self.now.configured (object_view write.now.id) write.now.property write.now.index
+            write.now.priority write.now.value.now) }
         ensures place { IfOk result (λ put. put.place < length self.now.configured.objects) }
     {
-        let write = AskedWrite {
-            id,
-            property,
-            index,
-            priority,
-            value,
-        };
         write.check(alloc, &self.configured)
     }
 

@@ -21,4 +21,4 @@ pub use fault::{ReadFault, WriteFault};
 pub use property::{ObjectType, Property, PropertySet, properties};
 pub use table::MAX_APDU;
 pub use value::PropertyValue;
-pub use write::Put;
+pub use write::{AskedWrite, Put};

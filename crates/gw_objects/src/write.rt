@@ -64,9 +64,9 @@ impl Put {
     }
 }
 
-/// A write that is asked for.
+/// A write that is asked for, for [`check`](crate::ObjectDb::check).
 #[derive(Drop)]
-pub(crate) struct AskedWrite<'a> {
+pub struct AskedWrite<'a> {
     /// The object that it names.
     pub id: ObjectId,
     /// The number of the property.
@@ -82,7 +82,7 @@ pub(crate) struct AskedWrite<'a> {
 impl AskedWrite<'_> {
     /// What it does, or its first fault.
     #[tactic(auto, unfolding(crate::specs::Write::write_of))]
-    pub fn check(&self, alloc: Global, configured: &Configured) -> Result<Put, WriteFault>
+    pub(crate) fn check(&self, alloc: Global, configured: &Configured) -> Result<Put, WriteFault>
         requires { IsPriority self.now.priority }
         ensures write { Decides (λ put. put) writes_text result
             (write_of configured.now (object_view self.now.id) self.now.property self.now.index

@@ -13,10 +13,11 @@ use gw_script::Event;
 use std::alloc::Global;
 use std::marker::Model;
 
-/// How often the gateway was asked to take an event and answered that memory was refused. It stays at 2^64 - 1. Only the call that asks
-/// the gateway raises it.
+/// How often the gateway was asked to take an event, with this allocator, and answered that memory was refused. It stays at 2^64 - 1.
+/// Only the call that asks the gateway raises it.
 #[derive(Drop)]
 pub struct Refusals {
+    alloc: Global,
     count: u64,
 }
 
@@ -30,10 +31,10 @@ impl Model for Refusals {
 
 impl Refusals {
     /// None so far.
-    pub(crate) fn none() -> Self
+    pub(crate) fn none(alloc: Global) -> Self
         ensures { result ≡ 0 }
     {
-        Refusals { count: 0 }
+        Refusals { alloc, count: 0 }
     }
 
     /// How many there were.
@@ -55,7 +56,6 @@ impl Refusals {
 /// there is no memory for that, the event is taken all the same. If there is none for the event, that is counted.
 #[inline(always)]
 pub(crate) fn take_seen<G: Guard>(
-    alloc: Global,
     gateway: &mut Gateway,
     event: &Event<'_>,
     guard: &G,
@@ -73,6 +73,7 @@ pub(crate) fn take_seen<G: Guard>(
     ensures err { OnErr result (gateway.new ≡ gateway.old) }
     ensures refused { refusals.new ≡ refusals_after refusals.old result }
 {
+    let alloc = refusals.alloc;
     if guard.watches() {
         match take_event(alloc, gateway, event, &SeenBy { guard }) {
             Ok(watched) => {

@@ -194,7 +194,7 @@ impl ServeState {
             unwritten: Vec::new(alloc),
             served: Served::none(),
             tally: DropTally::none(),
-            refusals: Refusals::none(),
+            refusals: Refusals::none(alloc),
         }
     }
 
@@ -276,14 +276,7 @@ impl ServeState {
         };
         let tick = gateway.counts().ticks;
         let mut asked = None;
-        let taken = match take_seen(
-            alloc,
-            gateway,
-            &event,
-            guard,
-            &mut asked,
-            &mut self.refusals,
-        ) {
+        let taken = match take_seen(gateway, &event, guard, &mut asked, &mut self.refusals) {
             Ok(taken) => taken,
             Err(StepFault::Memory) => {
                 self.served.memory_drops += 1;
