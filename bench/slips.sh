@@ -10,9 +10,10 @@
 #     bench/slips.sh --jobs 2        # so many crates side by side; else JOBS or RT_JOBS says how many, else as many as the gate proves
 #     LOGS=FOLDER bench/slips.sh     # keeps what each check said
 #
-# bench/slips.tsv has a line for each slip that was tried: its crate and name, what refused it, the goal, and the checksum of the crate's
-# sources and the slip. So the slips of a crate are tried again once its sources change. The line is written as soon as its slip has been
-# tried, so a run that is interrupted, or ends for want of time, loses the check under way alone.
+# bench/slips.tsv has a line for each slip that was tried: its crate and name, what refused it, the goal, and the checksum of the slip and
+# of the crate's sources without comments and hints on inlining, which no proof depends on. So the slips of a crate are tried again once
+# the rest of its sources changes. The line is written as soon as its slip has been tried, so a run that is interrupted, or ends for want
+# of time, loses the check under way alone.
 #
 # A slip has the form of the gate's own edits in must-fail/. Where it lies in one function, it is written into a copy of that function
 # under another name, with its contract and its proof, so that one check tries all of a crate: of these copies, of the functions as they
@@ -73,14 +74,23 @@ PARTS = ["src", "specs", "proofs"]
 TURNS = 6
 RECORD = top / "bench" / "slips.tsv"
 REFUSED = ("clause", "goal", "proof", "case")
+NO_CODE = re.compile(r"\s*(//.*|#\[(inline(\((always|never)\))?|cold)\])")
+NO_SPEC = re.compile(r"\s*-- .*")
 FUNCTION = re.compile(r"(\s*)(?:pub(?:\([a-z]+\))? )?(?:const )?fn (\w+)")
 
 
+def read_proved(path):
+    """What a proof can depend on in a file: all but comments and hints on inlining in lines of their own."""
+    left_out = {".rt": NO_CODE, ".antt": NO_SPEC}.get(path.suffix)
+    lines = path.read_text(encoding="utf-8").splitlines()
+    return [line for line in lines if not (left_out and left_out.fullmatch(line))]
+
+
 def sum_of(name):
-    """The checksum of a crate's sources."""
+    """The checksum of what proofs can depend on in a crate's sources."""
     found = hashlib.sha256()
     for path in sorted(it for part in PARTS for it in (top / "crates" / name / part).glob("**/*") if it.is_file()):
-        found.update(repr((str(path.relative_to(top)), path.read_bytes())).encode())
+        found.update(repr((str(path.relative_to(top)), read_proved(path))).encode())
     return found.hexdigest()
 
 

@@ -268,6 +268,7 @@ fn local_octets(network: NetNum, priority: Priority, answer: Answer) -> Option<V
 
 /// The datagram of an answer to one address: the frame's header, the NPDU and its APDU. None where the NPDU would be
 /// over 1497 octets.
+#[inline(always)]
 fn reply_octets(
     sends: &mut Sends,
     network: NetNum,
@@ -294,6 +295,7 @@ fn is_local_broadcast(request: &Npdu<'_>, answer: &Answer) -> bool
 
 /// Appends the sends of an answer to a message, if there is one. An `Err` only if a growth of memory
 /// was refused, and none without an answer; a part may then be added.
+#[inline(always)]
 pub(crate) fn add_answer(
     network: NetNum,
     message: &Message<'_>,

@@ -41,6 +41,7 @@ impl Access<'_> {
     }
 
     /// The answer to a read that is allowed.
+    #[inline(always)]
     fn value_apdu(
         &self,
         header: &ConfirmedRequest,

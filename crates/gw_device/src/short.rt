@@ -122,6 +122,7 @@ pub(crate) fn abort_too_long(octets: Vec<u8>, invoke: u8) -> Result<Vec<u8>, All
 
 /// A ComplexACK after the room for headers, or an Abort in its place if it is too long. `AllocError` if memory
 /// was refused.
+#[inline(always)]
 pub(crate) fn fit(
     octets: Vec<u8>,
     request: &ConfirmedRequest,

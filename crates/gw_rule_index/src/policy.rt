@@ -102,6 +102,7 @@ impl Judge for Policy {
         }
     }
 
+    #[inline(always)]
     fn decide(&self, ask: &Ask) -> Decision {
         match &self.index {
             Some(index) => index.decide(ask),

@@ -62,6 +62,7 @@ pub(crate) fn put_number(out: &mut Vec<u8>, tag: u8, number: Option<u32>) -> Res
 }
 
 /// Appends the body. After an `Err` a front of it may remain.
+#[inline(always)]
 pub(crate) fn put(out: &mut Vec<u8>, request: &ReadReq) -> Result<(), AllocError>
     ensures { IsAppended (read_encoding (read_view request.now)) out.old out.new result }
 {

@@ -15,6 +15,7 @@ use crate::tags::{write_closing, write_context_unsigned, write_opening};
 use gw_addr::keep_whole;
 use std::alloc::AllocError;
 
+#[inline(always)]
 fn put_read_answer_head(out: &mut Vec<u8>, request: &ReadReq) -> Result<(), AllocError>
     ensures { IsAppended (read_answer_head (read_view request.now)) out.old out.new result }
 {
@@ -27,6 +28,7 @@ fn put_read_answer_head(out: &mut Vec<u8>, request: &ReadReq) -> Result<(), Allo
 /// # Errors
 ///
 /// 1 Memory, only where the buffer had no room.
+#[inline(always)]
 pub fn write_read_answer_head(out: &mut Vec<u8>, request: &ReadReq) -> Result<(), AllocError>
     ensures { IsAppendedWhole (read_answer_head (read_view request.now)) out.old out.new result }
 {
@@ -40,6 +42,7 @@ pub fn write_read_answer_head(out: &mut Vec<u8>, request: &ReadReq) -> Result<()
 /// # Errors
 ///
 /// 1 Memory, only where the buffer had no room.
+#[inline(always)]
 pub fn write_read_answer_tail(out: &mut Vec<u8>) -> Result<(), AllocError>
     ensures { IsAppendedWhole read_answer_tail out.old out.new result }
 {

@@ -173,6 +173,7 @@ pub fn write_opening(out: &mut Vec<u8>, number: u8) -> Result<(), AllocError>
 /// # Errors
 ///
 /// 1 Memory, only if the buffer had no room.
+#[inline(always)]
 pub fn write_closing(out: &mut Vec<u8>, number: u8) -> Result<(), AllocError>
     requires { number < 255 }
     ensures { IsAppendedWhole (canonical (context number Closing)) out.old out.new result }
