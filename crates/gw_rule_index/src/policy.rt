@@ -102,7 +102,6 @@ impl Judge for Policy {
         }
     }
 
-    #[inline(always)]
     fn decide(&self, ask: &Ask) -> Decision {
         match &self.index {
             Some(index) => index.decide(ask),

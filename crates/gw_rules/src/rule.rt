@@ -120,7 +120,7 @@ impl Rule {
 
     /// Whether the rule matches the ask, if it names another field than the operation and the three of an object as is said.
     /// Those of an object come first, since they part most rules from most asks to read.
-    #[inline(always)]
+    #[inline]
     pub(crate) fn matches_by(&self, has_another: bool, ask: &Ask) -> bool
         requires named { has_another ≡ names_another self.now }
         ensures { result ≡ matches self.now ask.now }

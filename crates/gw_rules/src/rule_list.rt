@@ -133,7 +133,6 @@ impl RuleList {
     }
 
     /// Both at once, by one walk: whether the ask is allowed, and which rule denies it.
-    #[inline(always)]
     pub fn decide(&self, ask: &Ask) -> Decision
         ensures { result ≡ decide self.now ask.now }
     {
@@ -233,7 +232,7 @@ fn denies(rule: Option<&Rule>) -> bool
 }
 
 /// The place of the first rule that matches the ask, if one does, by what each names.
-#[inline(always)]
+#[inline]
 fn place_of(rules: &[Rule], others: &[bool; MAX_RULES], ask: &Ask) -> Option<usize>
     requires few { length rules.now ≤ MAX_RULES }
     requires others { SayOthers others.now rules.now }
