@@ -107,8 +107,8 @@ pub record Stays {K : Type 0} (c : Configuration) (s : Standing K) (d : Configur
   pub announcing : t.announcing ≡ s.announcing
 
 -- The configuration isn't taken over, and the request is answered by a line that says why.
-pub record IsRefusedSo {K : Type 0} (c : Configuration) (s : Standing K) (read : Result (Option (List ℕ)) ReadFailure) (fault : ReloadFault)
-    (line : List ℕ) (d : Configuration) (t : Standing K) : Type 0 where
+pub record IsRefusedSo {K : Type 0} (c : Configuration) (s : Standing K) (read : Result (Option (List ℕ)) ReadFailure)
+    (fault : ReloadFault) (line : List ℕ) (d : Configuration) (t : Standing K) : Type 0 where
   pub why : IsRefused s.gateway read fault
   pub says : IsRefusalLine read fault line
   pub stays : Stays c s d t

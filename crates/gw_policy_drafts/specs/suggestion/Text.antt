@@ -195,7 +195,8 @@ last_text open_asks apart unread = apart_line apart ++ (open_line open_asks ++ u
 
 -- of these rules for asks that were given so often, of those that are left out, and of so many groups that were left apart
 -- and lines without an ask
-abbrev pub suggestion_text : DraftSite → List Assertion → (kept : List Rule) → List LeftOut → List Weighted → (apart unread : ℕ) → List ℕ
+abbrev pub suggestion_text : DraftSite → List Assertion → (kept : List Rule) → List LeftOut → List Weighted → (apart unread : ℕ)
+    → List ℕ
 suggestion_text place assertions kept left asks apart unread =
     none_line kept left (total is_open asks)
     ++ (flat_map (rule_text place asks) kept

@@ -89,7 +89,8 @@ grants_or_none deed grants = if length grants == 0 then head_words deed ++ none_
 
 -- A text has a line for each rule that lets somebody do a deed, by what is found of the rules over the asks of this shape, or says that
 -- there is none; so many steps are left before, and after.
-pub record AreGrants (c : Configuration) (lines : List ℕ) (deed : Deed) (shape : Shape) (left rest : ℕ) (text : List ℕ) : Type 0 where
+pub record AreGrants (c : Configuration) (lines : List ℕ) (deed : Deed) (shape : Shape) (left rest : ℕ)
+    (text : List ℕ) : Type 0 where
   pub findings : List Finding
   pub are_true : AreTrue (shape ∷ []) c.rules left rest findings
   pub shown : text ≡ grants_or_none deed (grants_text c lines deed shape findings)

@@ -77,5 +77,6 @@ pub record AreKnown (top : Members) : Type 0 where
   pub route : (ports route : ℕ) → Knows (Route route) (fields_at (Route route) top) (route_of ports route)
   pub object : (object : ℕ) (kind : ObjectKind) → Knows (Object object) (kind_fields (Some kind)) (object_of_kind object kind)
   pub set : (rules assertions : List Data) (set : ℕ) → Knows (Set set) (fields_at (Set set) top) (set_of rules assertions set)
-  pub assertion : (sets : List Data) (assertion : ℕ) → Knows (Assertion assertion) (fields_at (Assertion assertion) top) (assertion_of sets assertion)
+  pub assertion : (sets : List Data) (assertion : ℕ)
+      → Knows (Assertion assertion) (fields_at (Assertion assertion) top) (assertion_of sets assertion)
   pub rule : (sets : List Data) (rule : ℕ) → Knows (Rule rule) (fields_at (Rule rule) top) (rule_of (format_in top) sets rule)
